@@ -18,23 +18,23 @@ is_identifier (first ∷ rest) = is_name_start first && list_all is_name_byte re
 
 -- the 44 keywords of C11 (6.4.1 of ISO/IEC 9899:2011)
 abbrev pub keywords : List (List ℕ)
-keywords =  codes "auto" ∷ codes "break" ∷ codes "case" ∷ codes "char" ∷ codes "const" ∷ codes "continue" ∷
-     codes "default" ∷ codes "do" ∷ codes "double" ∷ codes "else" ∷ codes "enum" ∷
-     codes "extern" ∷ codes "float" ∷ codes "for" ∷ codes "goto" ∷ codes "if" ∷ codes "inline" ∷
-     codes "int" ∷ codes "long" ∷ codes "register" ∷ codes "restrict" ∷ codes "return" ∷
-     codes "short" ∷ codes "signed" ∷ codes "sizeof" ∷ codes "static" ∷ codes "struct" ∷
-     codes "switch" ∷ codes "typedef" ∷ codes "union" ∷ codes "unsigned" ∷ codes "void" ∷
-     codes "volatile" ∷ codes "while" ∷ codes "_Alignas" ∷ codes "_Alignof" ∷ codes "_Atomic" ∷
-     codes "_Bool" ∷ codes "_Complex" ∷ codes "_Generic" ∷ codes "_Imaginary" ∷
-     codes "_Noreturn" ∷ codes "_Static_assert" ∷ codes "_Thread_local" ∷ []
+keywords = codes "auto" ∷ codes "break" ∷ codes "case" ∷ codes "char" ∷ codes "const" ∷ codes "continue" ∷
+    codes "default" ∷ codes "do" ∷ codes "double" ∷ codes "else" ∷ codes "enum" ∷
+    codes "extern" ∷ codes "float" ∷ codes "for" ∷ codes "goto" ∷ codes "if" ∷ codes "inline" ∷
+    codes "int" ∷ codes "long" ∷ codes "register" ∷ codes "restrict" ∷ codes "return" ∷
+    codes "short" ∷ codes "signed" ∷ codes "sizeof" ∷ codes "static" ∷ codes "struct" ∷
+    codes "switch" ∷ codes "typedef" ∷ codes "union" ∷ codes "unsigned" ∷ codes "void" ∷
+    codes "volatile" ∷ codes "while" ∷ codes "_Alignas" ∷ codes "_Alignof" ∷ codes "_Atomic" ∷
+    codes "_Bool" ∷ codes "_Complex" ∷ codes "_Generic" ∷ codes "_Imaginary" ∷
+    codes "_Noreturn" ∷ codes "_Static_assert" ∷ codes "_Thread_local" ∷ []
 
 -- the names of the headers and the operations of CFix that are read as words
 abbrev pub library_words : List (List ℕ)
-library_words =  codes "NULL" ∷ codes "printf" ∷ codes "scanf" ∷ codes "pthread_t" ∷ codes "pthread_mutex_t" ∷
-     codes "pthread_create" ∷ codes "pthread_join" ∷ codes "pthread_mutex_lock" ∷
-     codes "pthread_mutex_unlock" ∷ codes "PTHREAD_MUTEX_INITIALIZER" ∷ codes "cfix_enter" ∷
-     codes "cfix_leave" ∷ codes "cfix_wait" ∷ codes "cfix_done" ∷ codes "cfix_first" ∷
-     codes "cfix_add" ∷ codes "cfix_value" ∷ []
+library_words = codes "NULL" ∷ codes "printf" ∷ codes "scanf" ∷ codes "pthread_t" ∷ codes "pthread_mutex_t" ∷
+    codes "pthread_create" ∷ codes "pthread_join" ∷ codes "pthread_mutex_lock" ∷
+    codes "pthread_mutex_unlock" ∷ codes "PTHREAD_MUTEX_INITIALIZER" ∷ codes "cfix_enter" ∷
+    codes "cfix_leave" ∷ codes "cfix_wait" ∷ codes "cfix_done" ∷ codes "cfix_first" ∷
+    codes "cfix_add" ∷ codes "cfix_value" ∷ []
 
 abbrev pub is_keyword : List ℕ → Bool
 is_keyword text = list_any (bytes_eq text) keywords
@@ -54,4 +54,4 @@ is_name_text text = is_identifier text && not (is_word_text text)
 abbrev pub is_reserved_text : List ℕ → Bool
 is_reserved_text text =
     starts_with eqb text (codes "cfix_") || starts_with eqb text (codes "CFIX_")
-      || starts_with eqb text (codes "pthread_") || starts_with eqb text (codes "PTHREAD_")
+    || starts_with eqb text (codes "pthread_") || starts_with eqb text (codes "PTHREAD_")

@@ -1,0 +1,19 @@
+use cfix_base::List;
+
+/// The type of a global variable: an `int` with its initial value, arrays with their length (at
+/// least 1), a thread, a mutex.
+#[derive(Clone, Copy, Debug, PartialEq, Eq)]
+pub enum GlobalKind {
+    Int(i32),
+    IntArray(u32),
+    Thread,
+    ThreadArray(u32),
+    Mutex,
+}
+
+/// A global variable.
+#[derive(Drop)]
+pub struct Global {
+    pub name: List<u8>,
+    pub kind: GlobalKind,
+}
