@@ -11,6 +11,7 @@ mod number;
 mod op;
 mod place;
 mod spot;
+mod word;
 
 pub use access::{Access, AccessId};
 pub use entry::Entry;
@@ -26,3 +27,4 @@ pub use number::{FnId, LockId, NodeId, OrderId, VarId};
 pub use op::Op;
 pub use place::Place;
 pub use spot::Spot;
+pub use word::{is_identifier, is_name, is_name_byte, is_name_start, is_reserved, is_word};
