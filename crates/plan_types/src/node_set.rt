@@ -1,0 +1,53 @@
+ghost use Rattle.std.specs.Prelude.{◌≡◌, ◌<◌, length, IfOk};
+ghost use Rattle.plan_types.specs.Sets.{no_numbers, is_in, with_number};
+
+use crate::number_set::NumberSet;
+use cfix_base::{NoMemory, NodeId};
+use std::alloc::Global;
+use std::marker::Model;
+
+/// A set of nodes whose numbers are below its size.
+#[derive(Debug, Drop)]
+pub struct NodeSet {
+    numbers: NumberSet,
+}
+
+impl Model for NodeSet {
+    ghost use Rattle.std.specs.Prelude.{List, Bool};
+
+    ghost Value = { List Bool };
+
+    ghost view = { λ set. set.numbers };
+}
+
+impl NodeSet {
+    /// The empty set of this size.
+    pub fn empty(alloc: Global, size: u32) -> Result<NodeSet, NoMemory>
+        ensures { IfOk result (λ set. set ≡ no_numbers size) }
+    {
+        let numbers = NumberSet::empty(alloc, size)?;
+        Ok(NodeSet { numbers })
+    }
+
+    /// Adds a node. It takes no memory.
+    pub fn insert(&mut self, id: NodeId)
+        requires { id.number < length self.old }
+        ensures { self.new ≡ with_number self.old id.number }
+    {
+        self.numbers.insert(id.number);
+    }
+
+    /// Whether the node is in the set.
+    pub fn contains(&self, id: NodeId) -> bool
+        ensures { result ≡ is_in self.now id.number }
+    {
+        self.numbers.contains(id.number)
+    }
+
+    /// The size, below which all numbers are.
+    pub fn size(&self) -> u32
+        ensures { result ≡ length self.now }
+    {
+        self.numbers.size()
+    }
+}
