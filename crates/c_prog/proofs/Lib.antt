@@ -1,0 +1,17 @@
+pub mod Equations
+pub mod Examples
+pub mod FindNodes
+pub mod Gets
+pub mod PatchedStrip
+pub mod NodeLaws
+pub mod LinesRise
+pub mod Searches
+pub mod KeyOrders
+pub mod Marks
+pub mod ValidEquations
+pub mod ValidExamples
+pub mod StripFolds
+pub mod ValidStrip
+pub mod StraightEquations
+pub mod StraightBody
+pub mod ValidStraight

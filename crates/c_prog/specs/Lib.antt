@@ -1,0 +1,13 @@
+pub mod Nodes
+pub mod Order
+pub mod View
+pub mod Places
+pub mod Accesses
+pub mod Strip
+pub mod Patched
+pub mod Valid
+pub mod Straight
+pub mod Calls
+pub mod Rising
+pub mod Lines
+pub mod SourceCode
