@@ -1,0 +1,25 @@
+use Rattle.std.proofs.Common.{◌≡◌, ◌⊎◌, ℕ, sym, subst, ◌∙◌}
+use Rattle.cfix_core.specs.Words.{texts, names_of, request_of}
+use Rattle.cfix_core.specs.Answers.{Told}
+use Rattle.cfix_core.proofs.Causes.{exact_stop, exact_done, complete, site_stop}
+use Rattle.cfix_core.proofs.top.run.Goals as goal
+
+pub returns-in-Err-clause-exact : goal.returns-in-Err-clause-exact
+returns-in-Err-clause-exact g c = λ stop must still.
+    let P : ℕ → Type 0 = λ status. (status ≡ 3) ⊎ Told stop status (request_of (texts c.args.words.now)) (g.N.Sink.taken c.args.note.now) (g.N.Sink.taken c.tell.new.note) (g.N.Sink.faults c.args.note.now) (g.N.Sink.faults c.tell.new.note) in
+    subst P (sym c.status_of.ensures)
+    (exact_stop stop c.in-Err.stop (names_of c.in-Some.request) _ _ _ _ _ _ _ _ _ _ _ _ c.in-Some.ensures c.in-Err.ensures.cause c.tell.ensures must still)
+
+pub returns-in-Err-clause-complete : goal.returns-in-Err-clause-complete
+returns-in-Err-clause-complete g c = λ accepted still put.
+    let P : ℕ → Type 0 = λ status. (status ≡ 0) ⊎ (status ≡ 3) in
+    subst P (sym c.status_of.ensures)
+    (complete c.in-Err.stop (names_of c.in-Some.request) _ _ _ _ _ _ _ _ c.in-Some.ensures c.in-Err.ensures.cause accepted still put)
+
+pub returns-in-Ok-clause-exact : goal.returns-in-Ok-clause-exact
+returns-in-Ok-clause-exact g c = λ stop must still.
+    absurd (exact_done stop (names_of c.in-Some.request) _ _ _ _ c.in-Some.ensures c.in-Ok.ensures.done must)
+
+pub returns-in-Err-clause-site : goal.returns-in-Err-clause-site
+returns-in-Err-clause-site g c = λ status.
+    site_stop c.in-Err.stop (names_of c.in-Some.request) _ _ _ _ _ _ _ _ c.in-Some.ensures c.in-Err.ensures.cause (sym c.status_of.ensures ∙ status)

@@ -1,0 +1,106 @@
+ghost use Rattle.std.specs.Prelude.{◌≡◌, ◌≤◌, ◌++◌, OnOk, OnErr};
+ghost use Rattle.cfix_outside.specs.Faults.{Rose};
+ghost use Rattle.cfix_outside.specs.Sinks.{Gained, GainedFront};
+ghost use Rattle.cfix_core.specs.Words.{names_of};
+ghost use Rattle.cfix_core.specs.Stops.{limit_end, long_line, site_line, line_of, words_line};
+ghost use Rattle.cfix_core.specs.Answers.{Noted};
+
+use crate::patch::Role;
+use crate::stop::{Stop, limit_of, name_of};
+use crate::words::Request;
+use cfix_outside::{Sink, SinkFault};
+use itoa::Buffer;
+
+fn put_two<N: Sink>(note: &mut N, name: &str, last: &[u8]) -> Result<(), SinkFault>
+    ensures taken { OnOk result (Gained (N.taken note.old) (N.taken note.new) (name.now ++ last.now)) }
+    ensures front { OnErr result (GainedFront (N.taken note.old) (N.taken note.new) (name.now ++ last.now)) }
+    ensures later { N.faults note.old ≤ N.faults note.new }
+    ensures cause { OnErr result (Rose (N.faults note.old) (N.faults note.new)) }
+{
+    note.put(name.as_bytes())?;
+    note.put(last)?;
+    Ok(())
+}
+
+fn put_three<N: Sink>(note: &mut N, first: &[u8], name: &str, last: &[u8]) -> Result<(), SinkFault>
+    ensures taken { OnOk result (Gained (N.taken note.old) (N.taken note.new) (first.now ++ (name.now ++ last.now))) }
+    ensures front { OnErr result (GainedFront (N.taken note.old) (N.taken note.new) (first.now ++ (name.now ++ last.now))) }
+    ensures later { N.faults note.old ≤ N.faults note.new }
+    ensures cause { OnErr result (Rose (N.faults note.old) (N.faults note.new)) }
+{
+    note.put(first)?;
+    put_two(note, name, last)?;
+    Ok(())
+}
+
+fn put_limit<N: Sink>(note: &mut N, limit: usize) -> Result<(), SinkFault>
+    ensures taken { OnOk result (Gained (N.taken note.old) (N.taken note.new) (limit_end limit)) }
+    ensures front { OnErr result (GainedFront (N.taken note.old) (N.taken note.new) (limit_end limit)) }
+    ensures later { N.faults note.old ≤ N.faults note.new }
+    ensures cause { OnErr result (Rose (N.faults note.old) (N.faults note.new)) }
+{
+    let mut buffer = Buffer::new();
+    put_two(note, buffer.format(limit), b" bytes\n")
+}
+
+fn put_long_line<N: Sink>(note: &mut N, name: &str, limit: usize) -> Result<(), SinkFault>
+    ensures taken { OnOk result (Gained (N.taken note.old) (N.taken note.new) (long_line name.now limit)) }
+    ensures front { OnErr result (GainedFront (N.taken note.old) (N.taken note.new) (long_line name.now limit)) }
+    ensures cause { OnErr result (Rose (N.faults note.old) (N.faults note.new)) }
+{
+    put_three(note, b"cfix: ", name, b" is longer than ")?;
+    put_limit(note, limit)?;
+    Ok(())
+}
+
+fn site_line(role: Role) -> &'static [u8]
+    ensures { result.now ≡ site_line role }
+{
+    match role {
+        Role::P => b"cfix: report 0: no site for p\n",
+        Role::C => b"cfix: report 0: no site for c\n",
+        Role::R => b"cfix: report 0: no site for r\n",
+    }
+}
+
+fn put_line<N: Sink>(note: &mut N, request: &Request<'_>, stop: Stop) -> Result<(), SinkFault>
+    ensures taken { OnOk result (Gained (N.taken note.old) (N.taken note.new) (line_of (names_of request.now) stop)) }
+    ensures front { OnErr result (GainedFront (N.taken note.old) (N.taken note.new) (line_of (names_of request.now) stop)) }
+    ensures cause { OnErr result (Rose (N.faults note.old) (N.faults note.new)) }
+{
+    match stop {
+        Stop::NoMemory => note.put(b"cfix: no memory\n"),
+        Stop::CannotRead(file) => put_three(
+            note,
+            b"cfix: cannot read ",
+            name_of(request, file),
+            b"\n",
+        ),
+        Stop::TooLong(file) => put_long_line(note, name_of(request, file), limit_of(file)),
+        Stop::CannotWrite => note.put(b"cfix: cannot write\n"),
+        Stop::Source => note.put(b"cfix: source is outside the first form\n"),
+        Stop::Reports => note.put(b"cfix: reports: outside the first form\n"),
+        Stop::OtherMode => note.put(b"cfix: reports: outside the first form\n"),
+        Stop::NoSite(role) => note.put(site_line(role)),
+    }
+}
+
+/// Puts the line of a stop. It takes no memory; a put that fails ends the line.
+pub(crate) fn tell<N: Sink>(note: &mut N, request: &Request<'_>, stop: Stop)
+    ensures { Noted (line_of (names_of request.now) stop) (N.taken note.old) (N.taken note.new) (N.faults note.old) (N.faults note.new) }
+{
+    match put_line(note, request, stop) {
+        Ok(()) => {}
+        Err(_) => {}
+    }
+}
+
+/// Puts the line for words that are no command.
+pub(crate) fn tell_words<N: Sink>(note: &mut N)
+    ensures { Noted words_line (N.taken note.old) (N.taken note.new) (N.faults note.old) (N.faults note.new) }
+{
+    match note.put(b"cfix: bad words\n") {
+        Ok(()) => {}
+        Err(_) => {}
+    }
+}

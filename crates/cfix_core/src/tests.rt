@@ -1,0 +1,5 @@
+mod examples;
+mod failing;
+mod limits;
+mod scene;
+mod wording;

@@ -1,0 +1,56 @@
+ghost use Rattle.std.specs.Prelude.{◌≡◌, option_map, map, string_bytes};
+ghost use Rattle.std.specs.List.{list_any};
+ghost use Rattle.cfix_core.specs.Words.{texts, names_of, is_option, patch_row, request_of};
+
+/// What `patch PROG REPORTS` asks for: the names of the program's file and of the reports' file.
+#[derive(Clone, Copy, Debug, PartialEq, Eq)]
+pub struct Request<'w> {
+    pub source: &'w str,
+    pub reports: &'w str,
+}
+
+fn is_option(word: &str) -> bool
+    ensures { result ≡ is_option word.now }
+{
+    word.as_bytes().starts_with(b"-")
+}
+
+fn has_option(words: &[String]) -> bool
+    ensures { result ≡ list_any is_option (texts words.now) }
+{
+    for word in words {
+        if is_option(word.as_str()) {
+            return true;
+        }
+    }
+    false
+}
+
+fn patch_row(words: &[String]) -> Option<Request<'_>>
+    ensures { option_map names_of result ≡ patch_row (texts words.now) }
+{
+    match words {
+        [command, source, reports] => {
+            if command.as_str() == "patch" {
+                Some(Request {
+                    source: source.as_str(),
+                    reports: reports.as_str(),
+                })
+            } else {
+                None
+            }
+        }
+        _ => None,
+    }
+}
+
+/// What the words behind the program's name ask for, if they are a command.
+pub fn request_of(words: &[String]) -> Option<Request<'_>>
+    ensures { option_map names_of result ≡ request_of (texts words.now) }
+{
+    if has_option(words) {
+        None
+    } else {
+        patch_row(words)
+    }
+}
