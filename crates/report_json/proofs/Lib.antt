@@ -1,0 +1,4 @@
+pub mod Elements
+pub mod Related
+pub mod ReportKinds
+pub mod Unique

@@ -1,0 +1,4 @@
+pub mod Members
+pub mod Sites
+pub mod Shapes
+pub mod Reading
