@@ -1,5 +1,5 @@
 -- The accesses and the calls of a program are in rising order, and so are the lines of a source.
-use Rattle.std.proofs.Common.{◌≡◌, ℕ, ◌+◌, ◌<◌, ◌≤◌, Bool, true, List, [], ◌∷◌, ◌++◌, map, Option, Some, None, subst, refl, ap, sym, ◌∙◌, arith}
+use Rattle.std.proofs.Common.{◌≡◌, ℕ, ◌+◌, ◌<◌, ◌≤◌, true, List, [], ◌∷◌, ◌++◌, map, Option, Some, None, subst, sym, arith}
 use Rattle.cfix_base.specs.declared.access.AccessId.{AccessId}
 use Rattle.cfix_base.specs.declared.number.FnId.{FnId}
 use Rattle.cfix_base.specs.declared.number.NodeId.{NodeId}
@@ -10,7 +10,7 @@ use Rattle.c_prog.specs.Accesses.{numbered, touches}
 use Rattle.c_prog.specs.Calls.{callee}
 use Rattle.c_prog.specs.Lines.{LineTable, InOrder, IsLined, access_before, node_before, accesses_from, tree_accesses, if_call, calls_from, tree_calls}
 use Rattle.c_prog.specs.Order.{Node, tree_order}
-use Rattle.c_prog.specs.Rising.{keys, IsBefore, Rises}
+use Rattle.c_prog.specs.Rising.{IsBefore, Rises}
 
 abbrev node_of : ℕ → NodeId
 node_of n = record { number = n }

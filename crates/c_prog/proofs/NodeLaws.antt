@@ -1,5 +1,5 @@
 -- The number of nodes is the length of their order, and each number below it is that of a node.
-use Rattle.std.proofs.Common.{◌≡◌, ℕ, zero, suc, ◌+◌, ◌<◌, ◌≤◌, List, [], ◌∷◌, ◌++◌, map, length, slice_get, Option, Some, None, subst, refl, ap, sym, ◌∙◌, arith}
+use Rattle.std.proofs.Common.{◌≡◌, ℕ, zero, suc, ◌<◌, List, [], ◌∷◌, map, length, slice_get, Option, Some, None, subst, refl, ap, sym, ◌∙◌, arith}
 use Rattle.std.proofs.lemmas.List.{length-append}
 use Rattle.c_prog.specs.declared.function.Function.{Function}
 use Rattle.c_prog.specs.declared.stmt.Step.{Step}
@@ -9,7 +9,7 @@ use Rattle.c_prog.specs.declared.stmt.Stmt.TheViews.{roll-Stmt}
 use Rattle.c_prog.specs.declared.stmt.Stmt.TheOpen.{Stmt-F}
 use Rattle.c_prog.specs.declared.stmt.Stmt.TheFolds.{ind-Stmt, map-Stmt}
 use Rattle.c_prog.specs.declared.tree.Tree.{Tree}
-use Rattle.c_prog.specs.Nodes.{nodes, nodes_of, step_nodes, function_nodes, functions_nodes, tree_nodes}
+use Rattle.c_prog.specs.Nodes.{nodes, nodes_of, step_nodes, functions_nodes, tree_nodes}
 use Rattle.c_prog.specs.Order.{Node, order, order_of, step_order, function_order, functions_order, tree_order, node_at}
 use Rattle.c_prog.proofs.Equations.{nodes-Simple, nodes-Jump, nodes-If, nodes-Loop, nodes-Block, order-Simple, order-Jump, order-If, order-Loop, order-Block}
 

@@ -3,7 +3,6 @@ use Rattle.std.proofs.Common.{◌≡◌, Bool, true, false, ◌||◌, List, [], 
 use Rattle.cfix_base.specs.declared.op.Op.{Op}
 use Rattle.cfix_base.specs.declared.number.OrderId.{OrderId}
 use Rattle.c_prog.specs.declared.act.Act.{Act}
-use Rattle.c_prog.specs.declared.expr.Expr.{Expr}
 use Rattle.c_prog.specs.declared.function.Function.{Function}
 use Rattle.c_prog.specs.declared.stmt.Cond.{Cond}
 use Rattle.c_prog.specs.declared.stmt.Jump.{Jump}

@@ -64,7 +64,7 @@ fn find(stmt: &Stmt, number: u32) -> Found<'_>
 }
 
 #[cycle(find)]
-fn find_in(list: &[Stmt], number: u32) -> Found<'_>
+pub fn find_in(list: &[Stmt], number: u32) -> Found<'_>
     ensures { Finds result (order_of list.now) number }
 {
     let mut left = number;
