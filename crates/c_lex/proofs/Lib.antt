@@ -1,0 +1,13 @@
+pub mod Numbers
+pub mod Comments
+pub mod Literals
+pub mod Classes
+pub mod Strings
+pub mod Runs
+pub mod Fronts
+pub mod Longest
+pub mod Divisions
+pub mod Outcomes
+pub mod Turns
+pub mod Exact
+pub mod Again

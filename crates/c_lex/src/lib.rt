@@ -1,0 +1,23 @@
+//! The tokens of a source text: `lex` divides the text into blanks, comments and tokens, or names
+//! its first fault.
+#![tactic(auto)]
+
+mod byte;
+mod bytes;
+mod comment;
+mod fault;
+mod identifier;
+mod lexing;
+mod literal;
+mod number;
+mod sign;
+mod step;
+mod table;
+#[cfg(test)]
+mod tests;
+mod token;
+mod word;
+
+pub use fault::LexFault;
+pub use lexing::lex;
+pub use token::{Kind, Token, Tokens};
