@@ -8,8 +8,7 @@ use crate::byte::name_len;
 use crate::bytes::copy;
 use crate::step::Step;
 use crate::token::Kind;
-use crate::word::is_word;
-use cfix_base::NoMemory;
+use cfix_base::{NoMemory, is_word};
 use std::alloc::Global;
 
 fn name_or_word(alloc: Global, text: &[u8]) -> Result<Kind, NoMemory>

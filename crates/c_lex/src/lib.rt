@@ -16,7 +16,6 @@ mod table;
 #[cfg(test)]
 mod tests;
 mod token;
-mod word;
 
 pub use fault::LexFault;
 pub use lexing::lex;
