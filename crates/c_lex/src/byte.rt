@@ -1,24 +1,14 @@
 ghost use Rattle.std.specs.Prelude.{◌≡◌};
 ghost use Rattle.std.specs.List.{prefix_len, count_by};
-ghost use Rattle.cfix_base.specs.Words.{is_name_start, is_name_byte};
+ghost use Rattle.cfix_base.specs.Words.{is_name_byte};
 ghost use Rattle.c_lex.specs.Bytes.{is_blank, is_line_feed, is_line_byte, is_plain, is_escape};
+
+use cfix_base::is_name_byte;
 
 pub fn is_blank(byte: u8) -> bool
     ensures { result ≡ is_blank byte }
 {
     byte == b' ' || byte == b'\t' || byte == b'\n' || byte == b'\r'
-}
-
-pub fn is_name_start(byte: u8) -> bool
-    ensures { result ≡ is_name_start byte }
-{
-    byte.is_ascii_alphabetic() || byte == b'_'
-}
-
-pub fn is_name_byte(byte: u8) -> bool
-    ensures { result ≡ is_name_byte byte }
-{
-    byte.is_ascii_alphanumeric() || byte == b'_'
 }
 
 /// Whether a byte stands for itself in a string.

@@ -2,7 +2,7 @@ ghost use Rattle.std.specs.Prelude.{◌≡◌, ◌∷◌, IfOk};
 ghost use Rattle.c_lex.specs.Reading.{piece_at};
 ghost use Rattle.c_lex.specs.Steps.{Tells};
 
-use crate::byte::{is_blank, is_name_start};
+use crate::byte::is_blank;
 use crate::comment::slash;
 use crate::fault::Refusal;
 use crate::identifier::identifier;
@@ -10,7 +10,7 @@ use crate::literal::literal;
 use crate::number::numeral;
 use crate::sign::sign;
 use crate::token::Kind;
-use cfix_base::NoMemory;
+use cfix_base::{NoMemory, is_name_start};
 use std::alloc::Global;
 
 /// What stands first in a text: a blank or a comment of so many bytes, a token of so many bytes, or
