@@ -97,6 +97,8 @@ abbrev pub global_mutex_marks : ℕ → GlobalMutex → List Mark
 global_mutex_marks d (OneMutex x) = (ident x, d) ∷ []
 global_mutex_marks d (SetMutex x at value) = (ident x, d) ∷ ((sign s.Assign at, d) ∷ ((word w.MutexInitializer value, d) ∷ []))
 
+-- `"int" gvar { "," gvar } | "pthread_t" hold { "," hold } | "pthread_mutex_t" mutex { "," mutex }`, behind any number of
+-- `static` and `volatile` and before `;` (6.7 of ISO/IEC 9899:2011).
 pub data Globals : Type 0 where
   GlobalInts : Spot → GlobalInt → List (Spot × GlobalInt) → Globals
   GlobalHolds : Spot → Hold → List (Spot × Hold) → Globals

@@ -82,6 +82,7 @@ abbrev pub is_unary : Expr → Bool
 is_unary (Operation a op s b) = false
 is_unary _ = true
 
+-- how tightly an expression binds: as its operator if it is a binary operation, and else as `unary`, which is above them all
 abbrev pub binds : Expr → ℕ
 binds (Operation a op s b) = level op
 binds _ = 7

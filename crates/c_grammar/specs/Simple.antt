@@ -126,7 +126,7 @@ thread_arg_marks d (NullArg at) = (word w.Null at, d) ∷ []
 thread_arg_marks d (CastArg before void star after long e) =
     (sign s.OpenParen before, suc d) ∷ ((word w.Void void, suc d) ∷ ((sign s.Star star, suc d) ∷ ((sign s.CloseParen after, suc d) ∷ placed 0 (long_pieces d long ++ pieces d e))))
 
--- The calls of the headers (7.21.6.1 and 7.21.6.4 of ISO/IEC 9899:2011, and POSIX.1-2008). Each has its word and its
+-- The calls of the headers (7.21.6.3 and 7.21.6.4 of ISO/IEC 9899:2011, and POSIX.1-2008). Each has its word and its
 -- parenthesis first and its parenthesis last.
 pub data Library : Type 0 where
   -- & target , NULL , name , argument
