@@ -86,6 +86,11 @@ abbrev pub Left : Stop → Option (List ℕ) → Option (List ℕ) → Type 0
 Left CannotWrite old new = Unit {0}
 Left _ old new = new ≡ old
 
+-- and no put of it was tried that could fail: its count of faults stands still
+abbrev pub Untried : Stop → ℕ → ℕ → Type 0
+Untried CannotWrite before now = Unit {0}
+Untried _ before now = now ≡ before
+
 -- this line came to the notes, or their count rose and the front of it came
 abbrev pub Noted : List ℕ → Option (List ℕ) → Option (List ℕ) → ℕ → ℕ → Type 0
 Noted line old new before now = Gained old new line ⊎ (Rose before now × GainedFront old new line)

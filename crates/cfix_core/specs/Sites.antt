@@ -76,7 +76,7 @@ lines_of (statement ∷ rest) = plain_lines statement ++ lines_of rest
 abbrev pub site_in : FirstForm → SiteForm → Option AccessId
 site_in form site = bound_site (tree_of form) (lines_of form.statements) site
 
--- p stands before c in one node, so that each visit of the node makes both
+-- p stands before c in one node
 abbrev pub in_one_visit : AccessId → AccessId → Bool
 in_one_visit p c = eqb p.node.number c.node.number && nat_lt p.index c.index
 

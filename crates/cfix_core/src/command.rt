@@ -2,7 +2,7 @@ ghost use Rattle.std.specs.Prelude.{◌≡◌, ◌≤◌, List, ℕ, IfOk, OnOk,
 ghost use Rattle.cfix_outside.specs.Shelves.{Gives};
 ghost use Rattle.cfix_core.specs.Words.{names_of};
 ghost use Rattle.cfix_core.specs.Stops.{name_of, limit_of};
-ghost use Rattle.cfix_core.specs.Answers.{DoneFor, Cause, ReadCause, Left};
+ghost use Rattle.cfix_core.specs.Answers.{DoneFor, Cause, ReadCause, Left, Untried};
 
 use crate::patch::patched;
 use crate::stop::{NamedFile, Stop, limit_of, name_of, stop_of};
@@ -39,6 +39,7 @@ pub(crate) fn work<H: Shelf, O: Sink>(
     ensures done { OnOk result (DoneFor (names_of request.now) (H.files shelf.old) (O.taken out.old) (O.taken out.new)) }
     ensures cause { IfErr result (λ stop. Cause stop (names_of request.now) (H.files shelf.old) (H.faults shelf.old) (H.faults shelf.new) (O.taken out.old) (O.taken out.new) (O.faults out.old) (O.faults out.new)) }
     ensures left { IfErr result (λ stop. Left stop (O.taken out.old) (O.taken out.new)) }
+    ensures untried { IfErr result (λ stop. Untried stop (O.faults out.old) (O.faults out.new)) }
 {
     let source = read_file(alloc, request, NamedFile::Program, shelf)?;
     let reports = read_file(alloc, request, NamedFile::Reports, shelf)?;

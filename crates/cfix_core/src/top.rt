@@ -36,6 +36,7 @@ pub fn run<H: Shelf, O: Sink, N: Sink>(
     // What stands in the output.
     ensures cut { result ≡ 5 → Cut (request_of (texts words.now)) (H.files shelf.old) (O.taken out.old) (O.taken out.new) }
     ensures nothing { result ≢ 0 → result ≢ 5 → O.taken out.new ≡ O.taken out.old }
+    ensures untried { result ≢ 0 → result ≢ 5 → O.faults out.new ≡ O.faults out.old }
 
     // What stands in the notes.
     ensures silent { result ≡ 0 → N.taken note.new ≡ N.taken note.old }
