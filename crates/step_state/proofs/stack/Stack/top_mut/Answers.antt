@@ -1,0 +1,14 @@
+use Rattle.std.proofs.Common.{◌≡◌, ◌-◌, suc, length, refl, sym, ap, ◌∙◌, arith, reverse}
+use Rattle.std.specs.Prelude.{slice_get}
+use Rattle.std.proofs.lemmas.List.{length-reverse}
+use Rattle.std.proofs.lemmas.Option.{slice_get_read}
+use Rattle.step_state.specs.StackLends.{with_top}
+use Rattle.step_state.proofs.Tops.{set_last, get_last}
+use Rattle.step_state.proofs.stack.Stack.top_mut.Goals as goal
+
+pub returns : goal.returns
+returns g c =
+    let xs = c.self.inside.items.items in
+    let l : length (reverse xs) ≡ length c.args.self.now = ap length c.self.view_is in
+    let e : suc (c.len-last.result - 1) ≡ length xs = omega (arith, l, length-reverse xs, c.self.inside.items.ok.0, c.len-last.ensures) in
+    ((refl, λ w. set_last xs (c.len-last.result - 1) w e ∙ ap (λ s. with_top s w) c.self.view_is), record { lends = tt; value = ap (λ s. slice_get s 0) (sym c.self.view_is) ∙ get_last xs _ e ∙ slice_get_read xs (length xs) _ _ refl (omega (arith, e)) c.index_mut.ensures.value })

@@ -1,0 +1,16 @@
+pub mod StackLends
+pub mod TableLends
+pub mod Values
+pub mod Code
+pub mod Parts
+pub mod Items
+pub mod Changes
+pub mod Reduce
+pub mod Act
+pub mod Operate
+pub mod Step
+pub mod Start
+pub mod Run
+pub mod Erase
+pub mod Counts
+pub mod Reads
