@@ -1,0 +1,10 @@
+pub mod TextEquations
+pub mod TextExamples
+pub mod Operands
+pub mod Indented
+pub mod Betweens
+pub mod Guards
+pub mod LinesWritten
+pub mod Elses
+pub mod Programs
+pub mod SampleValid

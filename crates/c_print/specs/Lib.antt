@@ -1,0 +1,4 @@
+pub mod Text
+pub mod Table
+pub mod Written
+pub mod Samples

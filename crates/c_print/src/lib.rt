@@ -1,0 +1,18 @@
+//! The canonical text of a program.
+#![tactic(auto)]
+
+mod acts;
+mod expressions;
+mod functions;
+mod heads;
+mod jumps;
+mod names;
+mod operations;
+mod pieces;
+mod printing;
+mod statements;
+mod steps;
+#[cfg(test)]
+mod tests;
+
+pub use printing::print;

@@ -1,0 +1,9 @@
+pub mod NodeCounts
+pub mod Tables
+pub mod Graphs
+pub mod Within
+pub mod Walks
+pub mod Turns
+pub mod Joins
+pub mod Turnings
+pub mod Returns

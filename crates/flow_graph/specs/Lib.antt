@@ -1,0 +1,7 @@
+pub mod Flow
+pub mod Table
+pub mod Paths
+pub mod Regions
+pub mod Within
+pub mod Walks
+pub mod Links

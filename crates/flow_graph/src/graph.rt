@@ -1,0 +1,167 @@
+ghost use Rattle.std.specs.Prelude.{◌≡◌, Option, Some, None, IsSome, IfOk};
+ghost use Rattle.flow_graph.specs.Flow.{number_of};
+ghost use Rattle.flow_graph.specs.Table.{out_at, after_next, true_next, false_next};
+
+use crate::backward::turned;
+use crate::choice::members;
+use crate::links::onward;
+use crate::table::{Out, Table, out_at};
+use crate::walk::walk;
+use cfix_base::{NoMemory, NodeId, Place};
+use plan_types::NodeSet;
+use std::alloc::Global;
+use std::marker::Model;
+
+/// Control flow of one function of a program.
+#[derive(Debug, Drop)]
+pub struct Flow {
+    function: u32,
+    table: Table,
+    size: u32,
+}
+
+impl Model for Flow {
+    ghost use Rattle.flow_graph.specs.Flow.{Graph};
+
+    ghost Value = { Graph };
+
+    ghost use Rattle.flow_graph.specs.Table.{graph_in};
+
+    ghost view = { λ flow. graph_in flow.function flow.table flow.size };
+
+    ghost use Rattle.flow_graph.specs.Within.{IsFitting};
+
+    ghost invariant = { λ flow. IsFitting flow.table flow.size };
+}
+
+fn after_next(out: Option<Out>) -> Option<Option<u32>>
+    ensures { result ≡ after_next out }
+{
+    match out {
+        Some(Out::After(next)) => Some(next),
+        _ => None,
+    }
+}
+
+fn true_next(out: Option<Out>) -> Option<Option<u32>>
+    ensures { result ≡ true_next out }
+{
+    match out {
+        Some(Out::Branch { on_true, .. }) => Some(on_true.next),
+        _ => None,
+    }
+}
+
+fn false_next(out: Option<Out>) -> Option<Option<u32>>
+    ensures { result ≡ false_next out }
+{
+    match out {
+        Some(Out::Branch { on_false, .. }) => Some(on_false.next),
+        _ => None,
+    }
+}
+
+impl Flow {
+    ghost use Rattle.cfix_base.specs.declared.place.Place.TheVariants.{Start};
+    ghost use Rattle.flow_graph.specs.Flow.{next_at, number_of, fn_id};
+    ghost use Rattle.flow_graph.specs.Table.{graph_in};
+    ghost use Rattle.flow_graph.specs.Within.{IsFitting};
+    ghost use Rattle.flow_graph.specs.Flow.{edges_of};
+    ghost use Rattle.flow_graph.specs.Paths.{IsReach, IsBack};
+
+    /// The flow that a table holds.
+    pub(crate) fn of(function: u32, table: Table, size: u32) -> Flow
+        requires { IsFitting table size }
+        ensures { result ≡ graph_in function table size }
+    {
+        Flow {
+            function,
+            table,
+            size,
+        }
+    }
+
+    fn start(&self) -> Option<u32>
+        ensures { next_at (Start (fn_id self.now.function)) self.now.ways ≡ Some result }
+    {
+        if self.table.outs.len() == 0 {
+            None
+        } else {
+            Some(self.table.first)
+        }
+    }
+
+    pub(crate) fn next_in(&self, place: Place) -> Option<Option<u32>>
+        ensures { result ≡ next_at place self.now.ways }
+    {
+        match place {
+            Place::Start(function) => {
+                if function.number == self.function {
+                    Some(self.start())
+                } else {
+                    None
+                }
+            }
+            Place::After(node) => after_next(out_at(&self.table, node.number)),
+            Place::True(node) => true_next(out_at(&self.table, node.number)),
+            Place::False(node) => false_next(out_at(&self.table, node.number)),
+        }
+    }
+
+    /// The node that control meets after a place of this function. None is the exit.
+    pub fn next(&self, place: Place) -> Option<NodeId>
+        requires { IsSome (next_at place self.now.ways) }
+        ensures { next_at place self.now.ways ≡ Some (number_of result) }
+    {
+        node_of(self.next_in(place).unwrap())
+    }
+
+    /// The node that control meets first. None is the exit.
+    pub fn first(&self) -> Option<NodeId>
+        ensures { next_at (Start (fn_id self.now.function)) self.now.ways ≡ Some (number_of result) }
+    {
+        node_of(self.start())
+    }
+
+    /// The nodes to which a path of at least one edge leads from `from` whose inner nodes are not in
+    /// `avoiding`.
+    pub fn reach(
+        &self,
+        alloc: Global,
+        from: NodeId,
+        avoiding: &NodeSet,
+    ) -> Result<NodeSet, NoMemory>
+        ensures { IfOk result (λ set. IsReach (edges_of self.now.ways) avoiding.now from.number self.now.size set) }
+    {
+        let lists = onward(alloc, self.table.outs.as_slice())?;
+        let mut starts = Vec::new(alloc);
+        starts.push(from.number)?;
+        let first = self.table.first;
+        let set = walk(alloc, lists.as_slice(), first, self.size, starts, avoiding)?;
+        Ok(set)
+    }
+
+    /// The nodes of this function from which a path of at least one edge leads to a node of `to` with
+    /// no inner node in `avoiding`.
+    pub fn back(&self, alloc: Global, to: &NodeSet, avoiding: &NodeSet) -> Result<NodeSet, NoMemory>
+        ensures { IfOk result (λ set. IsBack (edges_of self.now.ways) avoiding.now to.now self.now.size set) }
+    {
+        let first = self.table.first;
+        let size = self.size;
+        let count = self.table.outs.len() as u32;
+        let lists = onward(alloc, self.table.outs.as_slice())?;
+        let backward = turned(alloc, lists.as_slice(), first)?;
+        let starts = members(alloc, to, first, count)?;
+        let found = walk(alloc, backward.as_slice(), first, size, starts, avoiding)?;
+        Ok(found)
+    }
+}
+
+fn node_of(number: Option<u32>) -> Option<NodeId>
+    ensures { number_of result ≡ number }
+{
+    match number {
+        None => None,
+        Some(number) => Some(NodeId { number }),
+    }
+}

@@ -1,0 +1,17 @@
+//! Control flow: what control meets after each place of a function, and where its paths lead.
+#![tactic(auto)]
+
+mod around;
+mod backward;
+mod build;
+mod choice;
+mod graph;
+mod links;
+mod sizes;
+mod table;
+#[cfg(test)]
+mod tests;
+mod walk;
+
+pub use build::{flow, flows};
+pub use graph::Flow;
