@@ -1,7 +1,7 @@
 use crate::expr::{Expr, Target};
 use cfix_base::{FnId, List, VarId};
 
-/// The type of a local variable; an array has its length, at least 1.
+/// The type of a local variable; an array has its length, in a source within the limits 1 to 65536.
 #[derive(Clone, Copy, Debug, PartialEq, Eq)]
 pub enum LocalKind {
     Int,

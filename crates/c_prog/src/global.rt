@@ -1,7 +1,7 @@
 use cfix_base::List;
 
-/// The type of a global variable: an `int` with its initial value, arrays with their length (at
-/// least 1), a thread, a mutex.
+/// The type of a global variable: an `int` with its initial value, arrays with their length (in a
+/// source within the limits 1 to 65536), a thread, a mutex.
 #[derive(Clone, Copy, Debug, PartialEq, Eq)]
 pub enum GlobalKind {
     Int(i32),
