@@ -1,0 +1,5 @@
+pub mod SiteLaws
+pub mod Pushes
+pub mod CallersKept
+pub mod CreationsKept
+pub mod SampleValid

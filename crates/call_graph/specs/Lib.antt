@@ -1,0 +1,5 @@
+pub mod Sites
+pub mod Calls
+pub mod Chains
+pub mod Kept
+pub mod Samples
