@@ -1,14 +1,13 @@
 -- The functions whose threads nodes create, kept node by node.
-use Rattle.std.proofs.Common.{◌≡◌, ◌≢◌, ℕ, ◌<◌, ◌⊎◌, Bool, List, [], ◌∷◌, ◌++◌, length, slice_get, Option, Some, None, inl, inr, ap, sym, ◌∙◌, refl, subst, arith}
+use Rattle.std.proofs.Common.{◌≡◌, ℕ, ◌<◌, ◌⊎◌, Bool, List, [], ◌∷◌, ◌++◌, length, slice_get, Option, Some, None, inl, inr, ap, sym, ◌∙◌, refl, arith}
 use Rattle.std.proofs.lemmas.Bool.{false≢true}
 use Rattle.std.proofs.lemmas.Option.{none-some}
 use Rattle.std.proofs.lemmas.Bool.Decides.{eqb_tells}
 use Rattle.cfix_base.specs.declared.number.FnId.{FnId}
-use Rattle.cfix_base.specs.declared.number.NodeId.{NodeId}
-use Rattle.plan_types.specs.Sets.{no_numbers, is_in, IsIn, with_number}
+use Rattle.plan_types.specs.Sets.{no_numbers, is_in, with_number}
 use Rattle.plan_types.proofs.Sets.{is_in-no_numbers, is_in-with_same, is_in-with_other, size-with_number}
 use Rattle.call_graph.specs.declared.site.Site.{Site}
-use Rattle.call_graph.specs.Calls.{site_created, created_of, IsCreated}
+use Rattle.call_graph.specs.Calls.{site_created, IsCreated}
 use Rattle.call_graph.specs.Kept.{HasCreated, with_created}
 use Rattle.call_graph.proofs.Pushes.{get_cases, get_old, get_last}
 

@@ -1,5 +1,5 @@
 -- What stands in a list with one more item, and in a list with one item changed.
-use Rattle.std.proofs.Common.{◌≡◌, ◌≢◌, ℕ, zero, suc, ◌<◌, ◌⊎◌, List, [], ◌∷◌, ◌++◌, length, take, get_or, slice_get, Option, Some, None, inl, inr, ap, refl, arith}
+use Rattle.std.proofs.Common.{◌≡◌, ℕ, zero, suc, ◌<◌, ◌⊎◌, List, [], ◌∷◌, ◌++◌, length, take, get_or, slice_get, Some, inl, inr, refl, arith}
 use Rattle.std.proofs.lemmas.Option.{none-some}
 
 some_same : {X : Type 0} (x y : X) → Some x ≡ Some y → x ≡ y

@@ -1,6 +1,5 @@
 -- Which function each node of a program stands in, calls, and starts as a thread.
 use Rattle.std.specs.Prelude.{ℕ, ◌+◌, Bool, List, [], ◌∷◌, ◌++◌, map}
-use Rattle.cfix_base.specs.declared.number.FnId.{FnId}
 use Rattle.c_prog.specs.declared.function.Function.{Function}
 use Rattle.c_prog.specs.declared.tree.Tree.{Tree}
 use Rattle.c_prog.specs.Calls.{callee, created}

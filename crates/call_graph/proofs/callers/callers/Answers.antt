@@ -1,9 +1,8 @@
 use Rattle.std.proofs.Common.{◌≡◌, ◌++◌, ◌∷◌, [], take, length, get_or, None, arith, refl, subst, ap, sym, ◌∙◌}
 use Rattle.std.proofs.lemmas.List.{take_more, take_all}
-use Rattle.cfix_base.specs.declared.number.NodeId.{NodeId}
 use Rattle.call_graph.specs.declared.site.Site.{Site}
 use Rattle.call_graph.specs.Kept.{HaveCallers, with_caller}
-use Rattle.call_graph.proofs.CallersKept.{callers_none, callers_more, callers_sized}
+use Rattle.call_graph.proofs.CallersKept.{callers_more, callers_sized}
 use Rattle.call_graph.proofs.Pushes.{taken}
 use Rattle.call_graph.proofs.callers.callers.Goals as goal
 

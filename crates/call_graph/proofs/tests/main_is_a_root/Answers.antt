@@ -1,4 +1,4 @@
-use Rattle.std.proofs.Common.{◌≡◌, length, ap, sym, ◌∙◌, arith}
+use Rattle.std.proofs.Common.{◌≡◌, length, ap, ◌∙◌, arith}
 use Rattle.call_graph.specs.Sites.{calls_of}
 use Rattle.call_graph.proofs.tests.main_is_a_root.Goals as goal
 
