@@ -7,6 +7,7 @@ use Rattle.flow_graph.specs.declared.table.Out.TheVariants as out
 use Rattle.flow_graph.specs.declared.table.Table.{Table}
 use Rattle.flow_graph.specs.Flow.{Next}
 use Rattle.flow_graph.specs.Walks.{targets_in, list_or}
+use Rattle.flow_graph.specs.Within.{IsFitting}
 
 -- the node that is met, unless the way is dead or goes to the exit
 abbrev pub met : Bool → Next → List ℕ
@@ -52,3 +53,9 @@ one_if false n = []
 abbrev pub members : List Bool → ℕ → ℕ → List ℕ
 members set low zero = []
 members set low (suc count) = members set low count ++ one_if (is_in set (low + count)) (low + count)
+
+-- the links of a table of a program with so many nodes, onward and turned
+pub record AreLinked (table : Table) (size : ℕ) (forward backward : List (List ℕ)) : Type 0 where
+  pub fits : IsFitting table size
+  pub forward_is : forward ≡ map out_targets table.outs
+  pub backward_is : Turned table.first (length (map out_targets table.outs)) (map out_targets table.outs) backward

@@ -197,9 +197,8 @@ fn add_all(table: &mut Table, list: &[Stmt], start: u32, around: Around) -> Resu
     Ok(())
 }
 
-// Control flow of the function with this number, from the number of its first node, in a program
-// with so many nodes.
-
+/// Control flow of the function with this number, from the number of its first node, in a program
+/// with so many nodes.
 pub(crate) fn function_flow(
     alloc: Global,
     function: &Function,
@@ -218,7 +217,8 @@ pub(crate) fn function_flow(
         on_continue: None,
     };
     add_all(&mut table, function.body.as_slice(), first, around)?;
-    Ok(Flow::of(number, table, size))
+    let flow = Flow::of(alloc, number, table, size)?;
+    Ok(flow)
 }
 
 /// Control flow of a function of the program.

@@ -7,7 +7,7 @@ use crate::choice::members;
 use crate::links::onward;
 use crate::table::{Out, Table, out_at};
 use crate::walk::walk;
-use cfix_base::{NoMemory, NodeId, Place};
+use cfix_base::{List, NoMemory, NodeId, Place};
 use plan_types::NodeSet;
 use std::alloc::Global;
 use std::marker::Model;
@@ -17,6 +17,10 @@ use std::marker::Model;
 pub struct Flow {
     function: u32,
     table: Table,
+    /// Of each node, the nodes to which its edges lead.
+    onward: List<List<u32>>,
+    /// Of each node, the nodes from which edges lead to it.
+    backward: List<List<u32>>,
     size: u32,
 }
 
@@ -29,9 +33,9 @@ impl Model for Flow {
 
     ghost view = { λ flow. graph_in flow.function flow.table flow.size };
 
-    ghost use Rattle.flow_graph.specs.Within.{IsFitting};
+    ghost use Rattle.flow_graph.specs.Links.{AreLinked};
 
-    ghost invariant = { λ flow. IsFitting flow.table flow.size };
+    ghost invariant = { λ flow. AreLinked flow.table flow.size flow.onward flow.backward };
 }
 
 fn after_next(out: Option<Out>) -> Option<Option<u32>>
@@ -69,16 +73,32 @@ impl Flow {
     ghost use Rattle.flow_graph.specs.Flow.{edges_of};
     ghost use Rattle.flow_graph.specs.Paths.{IsReach, IsBack};
 
-    /// The flow that a table holds.
-    pub(crate) fn of(function: u32, table: Table, size: u32) -> Flow
+    /// The flow that a table holds. The links between nodes are found once, for all walks.
+    pub(crate) fn of(
+        alloc: Global,
+        function: u32,
+        table: Table,
+        size: u32,
+    ) -> Result<Flow, NoMemory>
         requires { IsFitting table size }
-        ensures { result ≡ graph_in function table size }
+        ensures { IfOk result (λ flow. flow ≡ graph_in function table size) }
     {
-        Flow {
+        let onward = onward(alloc, table.outs.as_slice())?;
+        let backward = turned(alloc, onward.as_slice(), table.first)?;
+        Ok(Flow {
             function,
             table,
+            onward,
+            backward: List::from_vec(backward),
             size,
-        }
+        })
+    }
+
+    /// The number of nodes of the program, which is the size of each set that walks give.
+    pub fn size(&self) -> u32
+        ensures { result ≡ self.now.size }
+    {
+        self.size
     }
 
     fn start(&self) -> Option<u32>
@@ -133,11 +153,17 @@ impl Flow {
     ) -> Result<NodeSet, NoMemory>
         ensures { IfOk result (λ set. IsReach (edges_of self.now.ways) avoiding.now from.number self.now.size set) }
     {
-        let lists = onward(alloc, self.table.outs.as_slice())?;
         let mut starts = Vec::new(alloc);
         starts.push(from.number)?;
         let first = self.table.first;
-        let set = walk(alloc, lists.as_slice(), first, self.size, starts, avoiding)?;
+        let set = walk(
+            alloc,
+            self.onward.as_slice(),
+            first,
+            self.size,
+            starts,
+            avoiding,
+        )?;
         Ok(set)
     }
 
@@ -149,10 +175,15 @@ impl Flow {
         let first = self.table.first;
         let size = self.size;
         let count = self.table.outs.len() as u32;
-        let lists = onward(alloc, self.table.outs.as_slice())?;
-        let backward = turned(alloc, lists.as_slice(), first)?;
         let starts = members(alloc, to, first, count)?;
-        let found = walk(alloc, backward.as_slice(), first, size, starts, avoiding)?;
+        let found = walk(
+            alloc,
+            self.backward.as_slice(),
+            first,
+            size,
+            starts,
+            avoiding,
+        )?;
         Ok(found)
     }
 }

@@ -5,6 +5,7 @@ use crate::build::function_flow;
 use crate::graph::Flow;
 use c_prog::{Act, Cond, Expr, FnKind, Function, Jump, Step, Stmt, Target, Var};
 use cfix_base::{FnId, List, NoMemory, NodeId, Place, VarId};
+use plan_types::NodeSet;
 use sqlite_items::Items;
 use std::alloc::Global;
 use std::test::Fail;
@@ -210,5 +211,87 @@ fn a_function_without_nodes_ends_at_once(rt: HostRuntime) -> Result<(), Fail> {
     let flow = flow_of(alloc, none(alloc))?;
     assert_eq!(rt; flow.first(), None);
     assert_eq!(rt; flow.next_in(start()), Some(None));
+    Ok(())
+}
+
+fn set_of(alloc: Global, numbers: &[u32]) -> Result<NodeSet, NoMemory> {
+    let mut set = NodeSet::empty(alloc, 100)?;
+    for number in numbers {
+        if *number < set.size() {
+            set.insert(NodeId { number: *number });
+        }
+    }
+    Ok(set)
+}
+
+fn same_nodes(a: &NodeSet, b: &NodeSet) -> bool {
+    for number in 0..101u32 {
+        let id = NodeId { number };
+        if a.contains(id) != b.contains(id) {
+            return false;
+        }
+    }
+    a.size() == b.size()
+}
+
+fn is_reach(
+    alloc: Global,
+    flow: &Flow,
+    from: u32,
+    avoided: &[u32],
+    expected: &[u32],
+) -> Result<bool, NoMemory> {
+    let avoiding = set_of(alloc, avoided)?;
+    let reached = flow.reach(alloc, NodeId { number: from }, &avoiding)?;
+    let expected = set_of(alloc, expected)?;
+    Ok(same_nodes(&reached, &expected))
+}
+
+fn is_back(
+    alloc: Global,
+    flow: &Flow,
+    to: &[u32],
+    avoided: &[u32],
+    expected: &[u32],
+) -> Result<bool, NoMemory> {
+    let ends = set_of(alloc, to)?;
+    let avoiding = set_of(alloc, avoided)?;
+    let begins = flow.back(alloc, &ends, &avoiding)?;
+    let expected = set_of(alloc, expected)?;
+    Ok(same_nodes(&begins, &expected))
+}
+
+// `x = 1; if (y) x = 2;` and another statement, whose condition or only node is node 13.
+fn branch_and(alloc: Global, last: Stmt) -> Result<Flow, NoMemory>
+    requires { (flow last).size < 50 }
+{
+    let yes = one(alloc, simple(alloc))?;
+    let rest = block(two(alloc, choice(alloc, yes, none(alloc)), last)?);
+    flow_of(alloc, two(alloc, simple(alloc), rest)?)
+}
+
+// The last statement is `while (1) { z = 0; }`.
+#[test]
+fn reach_is_the_ends_of_paths(rt: HostRuntime) -> Result<(), Fail> {
+    let alloc = rt.alloc();
+    let endless = while_loop(alloc, Expr::Number(1), one(alloc, simple(alloc))?);
+    let flow = branch_and(alloc, endless)?;
+    assert!(rt; is_reach(alloc, &flow, 10, &[], &[11, 12, 13, 14])?);
+    assert!(rt; is_reach(alloc, &flow, 13, &[], &[13, 14])?);
+    assert!(rt; is_reach(alloc, &flow, 10, &[10, 12, 13], &[11, 12, 13])?);
+    assert!(rt; is_reach(alloc, &flow, 15, &[], &[])?);
+    Ok(())
+}
+
+// The last statement is `z = 0;`, which is not in the region from `x = 1` to `x = 2`: what both walks
+// find, and the two nodes.
+#[test]
+fn back_is_the_beginnings_of_paths(rt: HostRuntime) -> Result<(), Fail> {
+    let alloc = rt.alloc();
+    let flow = branch_and(alloc, simple(alloc))?;
+    assert!(rt; is_back(alloc, &flow, &[12], &[10, 12], &[10, 11])?);
+    assert!(rt; is_reach(alloc, &flow, 10, &[10, 12], &[11, 12, 13])?);
+    assert!(rt; is_back(alloc, &flow, &[13, 40], &[], &[10, 11, 12])?);
+    assert!(rt; is_back(alloc, &flow, &[13, 40], &[11], &[11, 12])?);
     Ok(())
 }

@@ -7,7 +7,7 @@ use Rattle.flow_graph.proofs.build.function_flow.Goals as goal
 
 pub returns : goal.returns
 returns c =
-    c.of.ensures
+    c.in_ok-flow.ensures
     ∙ graph_built c.args.number c.args.first c.args.size (size_of (parts_of c.args.function.now.body)) c.add_all.new.table c.new-outs.result
     (along (parts_of c.args.function.now.body) c.args.first outermost) c.new-outs.ensures c.in_ok-add_all.ensures.first
     (c.in_ok-add_all.ensures.last ∙ ap (λ list. c.args.first + size_of (parts_of list)) c.as_slice.ensures)

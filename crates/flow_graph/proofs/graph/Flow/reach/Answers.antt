@@ -10,16 +10,13 @@ use Rattle.flow_graph.proofs.graph.Flow.reach.Goals as goal
 
 pub walk-requires : goal.walk-requires
 walk-requires c =
-    let lists : c.as_slice-2.result.now ≡ map out_targets c.self.inside.table.outs =
-    c.as_slice-2.ensures ∙ c.in_ok-lists.ensures ∙ ap (map out_targets) c.as_slice.ensures in
-    λ u v here. onward_within c.self.inside.function (first_in c.self.inside.table) c.self.inside.table c.self.inside.size u v c.self.invariant
+    let lists : c.as_slice.result.now ≡ map out_targets c.self.inside.table.outs = c.as_slice.ensures ∙ c.self.invariant.forward_is in
+    λ u v here. onward_within c.self.inside.function (first_in c.self.inside.table) c.self.inside.table c.self.inside.size u v c.self.invariant.fits
     (subst (λ l. Contains (targets_in l c.self.inside.table.first u) v) lists here)
 
 pub returns : goal.returns
 returns c =
-    let table = c.self.inside.table in
-    let lists : c.as_slice-2.result.now ≡ map out_targets c.self.inside.table.outs =
-    c.as_slice-2.ensures ∙ c.in_ok-lists.ensures ∙ ap (map out_targets) c.as_slice.ensures in
+    let lists : c.as_slice.result.now ≡ map out_targets c.self.inside.table.outs = c.as_slice.ensures ∙ c.self.invariant.forward_is in
     let starts : c.push.new.self.items ≡ c.args.from.number ∷ [] =
     c.in_ok-push.ensures.items ∙ ap (λ l. l ++ c.args.from.number ∷ []) c.new-starts.ensures.items in
     let walk = subst (λ l. IsWalk (targets_in l c.self.inside.table.first) c.args.avoiding.now c.push.new.self.items c.self.inside.size c.in_ok-set.set)
