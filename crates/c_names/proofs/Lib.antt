@@ -1,0 +1,2 @@
+pub mod OneSource
+mod Examples

@@ -1,0 +1,66 @@
+-- Which source a text spells, and which texts are accepted. The text divides into tokens; the tokens are those of a file of the
+-- grammar; and the names of the file resolve to the source.
+use Rattle.std.specs.Prelude.{◌≡◌, ℕ, Bool, true, false, List, [], ◌∷◌, map, All}
+use Rattle.std.specs.List.{list_all}
+use Rattle.cfix_base.specs.declared.limits.TheConstants.{MAX_DEPTH}
+use Rattle.c_lex.specs.declared.token.Kind as k
+use Rattle.c_lex.specs.declared.token.Kind.TheVariants as lexed_kind
+use Rattle.c_lex.specs.declared.token.Token as t
+use Rattle.c_lex.specs.Pieces.{Piece}
+use Rattle.c_lex.specs.Division.{Divides}
+use Rattle.c_lex.specs.Meaning.{Verdict, Between, Counts, Refuses, verdict}
+use Rattle.c_lex.specs.Faults.{spot_behind, tokens_of}
+use Rattle.c_lex.specs.Lexed.{Lexed, Lexes}
+use Rattle.c_grammar.specs.Token.{Kind, IsName, IsNumber, IsQuoted, Token}
+use Rattle.c_grammar.specs.Spelling.{word_kind, sign_kind}
+use Rattle.c_grammar.specs.File.{File, file_marks, file_tokens, is_file}
+use Rattle.c_grammar.specs.Verdict.{IsRead}
+use Rattle.c_prog.specs.Lines.{SourceTree}
+use Rattle.c_names.specs.declared.fault.Fault.{Fault}
+use Rattle.c_names.specs.Faults.{is_limit}
+use Rattle.c_names.specs.Files.{faults_of}
+use Rattle.c_names.specs.Sources.{source_of}
+
+-- a token of the text as the grammar knows it
+abbrev pub kind_read : k.Kind → Kind
+kind_read (lexed_kind.Name text) = IsName text
+kind_read (lexed_kind.Word text) = word_kind text
+kind_read (lexed_kind.Number n) = IsNumber n
+kind_read (lexed_kind.Quoted bytes) = IsQuoted bytes
+kind_read (lexed_kind.Sign text) = sign_kind text
+
+abbrev pub token_read : t.Token → Token
+token_read token = record { kind = kind_read token.kind; spot = token.spot }
+
+abbrev pub tokens_read : List t.Token → List Token
+tokens_read tokens = map token_read tokens
+
+-- the piece is refused
+abbrev pub is_refused : Verdict → Bool
+is_refused (Refuses refusal) = true
+is_refused _ = false
+
+-- The text divides into pieces of which none is refused, and these are its tokens, whatever their number.
+pub record DividesInto (text : List ℕ) (tokens : List Token) : Type 0 where
+  pub pieces : List Piece
+  pub division : Divides pieces text
+  pub known : All (λ piece. is_refused (verdict piece) ≡ false) pieces
+  pub are_tokens : tokens ≡ tokens_read (tokens_of pieces)
+
+-- The text spells the source: its tokens are those of a file, of whatever depth, whose names have no fault but that a limit is
+-- passed, and which spells the source.
+pub record Spells (text : List ℕ) (source : SourceTree) : Type 0 where
+  pub file : File
+  pub divided : DividesInto text (file_tokens file)
+  pub derived : is_file file ≡ true
+  pub faultless : All (λ f. is_limit f.kind ≡ true) (faults_of (spot_behind text) file)
+  pub is_source : source ≡ source_of file
+
+-- The text is accepted: it has a token for each piece that is no blank or comment and not too many, they are those of a file and
+-- none stands too deep, and the names of the file have no fault.
+pub record Accepts (text : List ℕ) : Type 0 where
+  pub lexed : Lexed
+  pub lexes : Lexes text lexed
+  pub file : File
+  pub read : IsRead MAX_DEPTH file_marks is_file (tokens_read lexed.tokens) file
+  pub faultless : faults_of (spot_behind text) file ≡ []
