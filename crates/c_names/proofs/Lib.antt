@@ -1,2 +1,3 @@
 pub mod OneSource
+pub mod Accepted
 mod Examples

@@ -7,7 +7,7 @@ use Rattle.c_grammar.specs.File.{file_tokens}
 use Rattle.c_grammar.proofs.ReadFile.{file_one_tree}
 use Rattle.c_prog.specs.Lines.{SourceTree}
 use Rattle.c_names.specs.Sources.{source_of}
-use Rattle.c_names.specs.Texts.{tokens_read, DividesInto, Spells}
+use Rattle.c_names.specs.Texts.{tokens_read, Spells}
 
 pub one_source : (text : List ℕ) (a b : SourceTree) → Spells text a → Spells text b → a ≡ b
 one_source text a b x y =

@@ -3,13 +3,13 @@ use Rattle.std.specs.Prelude.{ℕ, suc, ◌+◌, ℤ, Bool, true, false, ◌||�
 use Rattle.std.specs.List.{list_any}
 use Rattle.std.specs.Str.{bytes_eq}
 use Rattle.cfix_base.specs.declared.Spot.{Spot}
-use Rattle.c_grammar.specs.Token.{Ident, Numeral}
-use Rattle.c_grammar.specs.Decl.{Size, Hold, OneThread, Threads, GlobalInt, OneGlobal, SetGlobal, GlobalArray, GlobalMutex, OneMutex, SetMutex, Globals, GlobalInts, GlobalHolds, GlobalMutexes}
-use Rattle.c_grammar.specs.File.{Replacement, Plainly, InParens, Return, ReturnsInt, ReturnsVoid, Param, ParamOf, Params, NoParams, VoidParams, SomeParams, Head, PlainHead, ThreadHead, Top, Include, Define, Variables, Prototype, Function, File}
+use Rattle.c_grammar.specs.Token.{Ident}
+use Rattle.c_grammar.specs.Decl.{Hold, OneThread, Threads, GlobalInt, OneGlobal, SetGlobal, GlobalArray, GlobalMutex, OneMutex, SetMutex, Globals, GlobalInts, GlobalHolds, GlobalMutexes}
+use Rattle.c_grammar.specs.File.{Replacement, Plainly, InParens, Return, ReturnsInt, ReturnsVoid, Param, ParamOf, Params, NoParams, VoidParams, SomeParams, Head, PlainHead, ThreadHead, Include, Define, Variables, Prototype, Function, File}
 use Rattle.c_prog.specs.declared.function.FnKind.{FnKind}
 use Rattle.c_prog.specs.declared.function.FnKind.TheVariants as kind
 use Rattle.c_prog.specs.Valid.Scope.{VarKind, int, int_array, thread, thread_array, mutex}
-use Rattle.c_names.specs.Uses.{Meaning, OfVariable, OfFunction, OfNumber, Form, Known, Names}
+use Rattle.c_names.specs.Uses.{Meaning, OfVariable, OfFunction, OfNumber, Form, Names}
 use Rattle.c_names.specs.Scopes.{listed}
 
 -- ---- global variables

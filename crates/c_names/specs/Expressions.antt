@@ -1,5 +1,5 @@
 -- Expressions, targets and calls: the faults of their names.
-use Rattle.std.specs.Prelude.{ℕ, Bool, true, false, not, ◌&&◌, ◌||◌, ◌==◌, nat_lt, List, [], ◌∷◌, ◌++◌, map, length, Option, Some, None, option_map}
+use Rattle.std.specs.Prelude.{ℕ, Bool, true, false, not, ◌&&◌, ◌||◌, ◌==◌, nat_lt, List, [], ◌∷◌, ◌++◌, map, length, Option, Some, None}
 use Rattle.cfix_base.specs.declared.limits.TheConstants.{MAX_ARGUMENTS}
 use Rattle.c_grammar.specs.Reader.{each}
 use Rattle.c_grammar.specs.Token.{Ident}

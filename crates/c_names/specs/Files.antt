@@ -1,6 +1,5 @@
 -- A file: the faults of its names, row by row, and its limits.
-use Rattle.std.specs.Prelude.{ℕ, suc, ℤ, Bool, true, false, not, ◌&&◌, ◌||◌, ◌==◌, List, [], ◌∷◌, ◌++◌, map, length, Option, Some, None, codes, is_some}
-use Rattle.std.specs.List.{list_any}
+use Rattle.std.specs.Prelude.{ℕ, Bool, true, false, not, ◌&&◌, ◌==◌, List, [], ◌∷◌, ◌++◌, map, Option, Some, None, codes}
 use Rattle.cfix_base.specs.declared.limits.TheConstants.{MAX_NODES, MAX_FUNCTIONS, MAX_GLOBALS, MAX_GLOBAL_CELLS, MAX_LOCAL_CELLS}
 use Rattle.cfix_base.specs.declared.Spot.{Spot}
 use Rattle.c_grammar.specs.Reader.{each, maybe}
@@ -20,7 +19,7 @@ use Rattle.c_prog.specs.Valid.Statements.{Around}
 use Rattle.c_names.specs.declared.fault.Fault.{Fault}
 use Rattle.c_names.specs.declared.fault.FaultKind.TheVariants.{Unknown, Twice, WrongUse, NoReturn}
 use Rattle.c_names.specs.Faults.{fault, fault_if}
-use Rattle.c_names.specs.Uses.{Meaning, OfFunction, Form, Known, Names, Use, IsFunction, file_use}
+use Rattle.c_names.specs.Uses.{Form, Names, Use, IsFunction, file_use}
 use Rattle.c_names.specs.Names.{reserved_faults, declare_faults, size_faults, size_length, length_faults}
 use Rattle.c_names.specs.Simples.{ops_faults}
 use Rattle.c_names.specs.Scopes.{listed}
@@ -28,7 +27,7 @@ use Rattle.c_names.specs.Statements.{items_faults}
 use Rattle.c_names.specs.SpelledStatements.{items_of}
 use Rattle.c_names.specs.Limits.{excess_faults, Cells, cells_faults, items_cells, items_nodes}
 use Rattle.c_names.specs.Starts.{start_number, start_faults}
-use Rattle.c_names.specs.Declarations.{Variable, variables, replacement_number, head_name, head_kind, Parameter, head_params, head_form, Declaration, declarations, names_of, is_declared}
+use Rattle.c_names.specs.Declarations.{replacement_number, head_name, head_kind, Parameter, head_params, head_form, Declaration, declarations, names_of, is_declared}
 
 -- ---- declared names
 

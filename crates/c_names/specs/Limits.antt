@@ -1,13 +1,10 @@
 -- The limits of a source: how many nodes, functions, variables and cells it may have.
 use Rattle.std.specs.Prelude.{ℕ, ◌-◌, nat_lt, List, [], ◌∷◌, ◌++◌, map, drop, Option, Some, None}
 use Rattle.cfix_base.specs.declared.Spot.{Spot}
-use Rattle.c_grammar.specs.Reader.{each, maybe}
-use Rattle.c_grammar.specs.Token.{Ident}
 use Rattle.c_grammar.specs.Expr.{Expr, Number, Name, Index, Paren, Cast, Unary, Operation}
 use Rattle.c_grammar.specs.Simple.{Target, TargetOf, Call, CallOf, Plain, SetTo, Changed, SteppedAfter, SteppedBefore, Library, Create, Join, Lock, Unlock, Print, Scan, Simple, PlainPart, SetCall, OnlyCall, LibraryPart}
 use Rattle.c_grammar.specs.Decl.{Hold, OneThread, Threads, LocalInt, OneLocal, SetLocal, LocalArray, Decl, Ints, Holds, LoopInt, OneLoop, SetLoop}
 use Rattle.c_grammar.specs.Cond.{TrueGuard, TrueGuardOf, Cond, Bare, OnTrue, OnFalse, OnBoth}
-use Rattle.c_grammar.specs.Stmt as s
 use Rattle.c_grammar.specs.Stmt.{Jump, BareJump, ReturnValue, BareBlock, ValueBlock, First, FirstInts, FirstPlain, LoopStep, LoopStepOf, Stmt, Block, Nothing, Simply, Jumps, If, While, For, Else, NoElse, ElseDo, Items, NoItems, AndItem, Item, Declares, Does}
 use Rattle.c_names.specs.declared.fault.Fault.{Fault}
 use Rattle.c_names.specs.declared.fault.FaultKind.TheVariants.{Limit}

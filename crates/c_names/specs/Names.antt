@@ -1,5 +1,5 @@
 -- The rules of single names: where they are used, and where they are declared.
-use Rattle.std.specs.Prelude.{ℕ, ℤ, pos, Bool, true, false, not, ◌&&◌, ◌||◌, ◌==◌, nat_lt, List, [], ◌∷◌, ◌++◌, Option, Some, None, unsigned_abs}
+use Rattle.std.specs.Prelude.{ℕ, ℤ, pos, Bool, not, ◌||◌, ◌==◌, nat_lt, List, [], ◌∷◌, ◌++◌, Option, Some, None, unsigned_abs}
 use Rattle.cfix_base.specs.declared.limits.TheConstants.{MAX_ARRAY_LENGTH}
 use Rattle.cfix_base.specs.declared.Spot.{Spot}
 use Rattle.cfix_base.specs.Words.{is_reserved_text}

@@ -1,5 +1,5 @@
 -- Which jumps fit where they stand (6.8.6 of ISO/IEC 9899:2011).
-use Rattle.std.specs.Prelude.{ℤ, pos, Bool, true, false, not, ◌&&◌, ◌||◌, List, [], ◌∷◌, ◌++◌, Option, Some, None}
+use Rattle.std.specs.Prelude.{ℤ, pos, Bool, false, not, ◌&&◌, ◌||◌, List, ◌++◌}
 use Rattle.std.specs.Ordering.{int_eq}
 use Rattle.cfix_base.specs.declared.Spot.{Spot}
 use Rattle.c_grammar.specs.Expr.{Expr, Number, Name, Paren}

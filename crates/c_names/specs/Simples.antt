@@ -1,10 +1,9 @@
 -- Simple statements and operations: the faults of their names, strings and numbers.
-use Rattle.std.specs.Prelude.{ℕ, Bool, true, false, not, ◌==◌, nat_lt, List, [], ◌∷◌, ◌++◌, map, length, Option, Some, None, unsigned_abs}
+use Rattle.std.specs.Prelude.{ℕ, Bool, false, not, ◌==◌, nat_lt, List, [], ◌++◌, map, length, unsigned_abs}
 use Rattle.cfix_base.specs.declared.limits.TheConstants.{MAX_ARGUMENTS, MAX_OPERATION_NUMBER}
 use Rattle.cfix_base.specs.declared.Spot.{Spot}
 use Rattle.c_grammar.specs.Reader.{each}
 use Rattle.c_grammar.specs.Token.{Ident}
-use Rattle.c_grammar.specs.Expr.{Expr}
 use Rattle.c_grammar.specs.Op.{Op, OpOf, Ops}
 use Rattle.c_grammar.specs.Simple.{ThreadArg, NullArg, CastArg, Plain, SetTo, Changed, SteppedAfter, SteppedBefore, Library, Create, Join, Lock, Unlock, Print, Scan, Simple, PlainPart, SetCall, OnlyCall, LibraryPart}
 use Rattle.c_prog.specs.Valid.Scope.{Scope}

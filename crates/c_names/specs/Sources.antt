@@ -1,11 +1,11 @@
 -- The program that a file spells, with the lines of its accesses and called names.
-use Rattle.std.specs.Prelude.{ℕ, ℤ, pos, neg_ℤ, List, [], ◌∷◌, ◌++◌, map, Option, Some, None, zip}
+use Rattle.std.specs.Prelude.{ℕ, ℤ, pos, neg_ℤ, List, [], ◌∷◌, map, Option, Some, None, zip}
 use Rattle.cfix_base.specs.declared.Spot.{Spot}
 use Rattle.c_grammar.specs.Reader.{each}
 use Rattle.c_grammar.specs.Op.{Ops}
-use Rattle.c_grammar.specs.Decl.{Size, Hold, OneThread, Threads, GlobalInt, OneGlobal, SetGlobal, GlobalArray, GlobalMutex, OneMutex, SetMutex, Globals, GlobalInts, GlobalHolds, GlobalMutexes}
+use Rattle.c_grammar.specs.Decl.{Hold, OneThread, Threads, GlobalInt, OneGlobal, SetGlobal, GlobalArray, GlobalMutex, OneMutex, SetMutex, Globals, GlobalInts, GlobalHolds, GlobalMutexes}
 use Rattle.c_grammar.specs.Stmt.{Items}
-use Rattle.c_grammar.specs.File.{Head, Top, Include, Define, Variables, Prototype, Function, File}
+use Rattle.c_grammar.specs.File.{Head, Top, Variables, Function, File}
 use Rattle.c_prog.specs.declared.function.Function as f
 use Rattle.c_prog.specs.declared.global.Global as g
 use Rattle.c_prog.specs.declared.global.GlobalKind.TheVariants as kind

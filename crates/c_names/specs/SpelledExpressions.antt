@@ -1,8 +1,7 @@
 -- What expressions, targets, calls and simple statements spell, whatever their faults.
-use Rattle.std.specs.Prelude.{ℕ, pos, List, [], ◌∷◌, map, Option, Some, None}
+use Rattle.std.specs.Prelude.{pos, List, map, Option, Some, None}
 use Rattle.c_grammar.specs.Expr as g
 use Rattle.c_grammar.specs.Expr.{Expr, Prefix, Negate, Invert, Binary, Number, Name, Index, Paren, Cast, Unary, Operation}
-use Rattle.c_grammar.specs.Simple as s
 use Rattle.c_grammar.specs.Simple.{Place, Target, TargetOf, Call, CallOf, Value, Computed, Called, Change, AddTo, SubtractFrom, MultiplyBy, DivideBy, RemainderBy, Step, Up, Down, Plain, SetTo, Changed, SteppedAfter, SteppedBefore, ThreadArg, NullArg, CastArg, Library, Create, Join, Lock, Unlock, Print, Scan, Simple, PlainPart, SetCall, OnlyCall, LibraryPart}
 use Rattle.c_prog.specs.declared.act.Act.{Act}
 use Rattle.c_prog.specs.declared.act.Act.TheVariants as act

@@ -1,5 +1,5 @@
 -- What declarations, conditions, jumps and statements spell, whatever their faults.
-use Rattle.std.specs.Prelude.{ℕ, pos, Bool, List, [], ◌∷◌, ◌++◌, map, Option, Some, None, unsigned_abs, if◌then◌else◌}
+use Rattle.std.specs.Prelude.{ℕ, pos, List, [], ◌∷◌, ◌++◌, map, Option, Some, None, unsigned_abs, if◌then◌else◌}
 use Rattle.cfix_base.specs.declared.Spot.{Spot}
 use Rattle.cfix_base.specs.declared.op.Op as o
 use Rattle.cfix_base.specs.declared.op.Op.TheVariants as op
@@ -27,7 +27,7 @@ use Rattle.c_prog.specs.Valid.Statements.{Around, looped}
 use Rattle.c_names.specs.Uses.{Names}
 use Rattle.c_names.specs.Names.{size_length}
 use Rattle.c_names.specs.Returns.{is_null}
-use Rattle.c_names.specs.Scopes.{local_int_declared, hold_declared, loop_int_declared, with_local, listed, in_for, stmt_locals, item_after}
+use Rattle.c_names.specs.Scopes.{local_int_declared, loop_int_declared, with_local, listed, in_for, stmt_locals, item_after}
 use Rattle.c_names.specs.SpelledExpressions.{expr_of, value_of, plain_of, simple_of}
 
 -- an operation with this number

@@ -1,11 +1,11 @@
 -- The orders that begin with a token: `#define CFIX_START_3 1` says so of order 3.
-use Rattle.std.specs.Prelude.{ℕ, ℤ, pos, Bool, true, false, not, ◌&&◌, nat_le, nat_lt, List, [], ◌∷◌, ◌++◌, drop, length, Option, Some, None, eqb, codes, if◌then◌else◌}
+use Rattle.std.specs.Prelude.{ℕ, ℤ, pos, not, nat_le, nat_lt, List, [], ◌∷◌, ◌++◌, drop, length, Option, Some, None, eqb, codes, if◌then◌else◌}
 use Rattle.std.specs.List.{starts_with}
 use Rattle.std.specs.Ordering.{int_eq}
 use Rattle.cfix_base.specs.declared.limits.TheConstants.{MAX_OPERATION_NUMBER}
 use Rattle.cfix_base.specs.declared.number.OrderId.{OrderId}
 use Rattle.c_grammar.specs.Token.{Ident}
-use Rattle.c_grammar.specs.File.{Top, Include, Define, Variables, Prototype, Function, File}
+use Rattle.c_grammar.specs.File.{Define, File}
 use Rattle.c_lex.specs.Meaning.{decimal, is_number}
 use Rattle.c_names.specs.declared.fault.Fault.{Fault}
 use Rattle.c_names.specs.declared.fault.FaultKind.TheVariants.{WrongUse, Limit}

@@ -1,6 +1,6 @@
 -- What a name stands for at a place of a body (6.2.1 and 6.2.3 of ISO/IEC 9899:2011): the innermost declaration counts, and
 -- globals, functions and defined names are visible in the whole file and share one name space.
-use Rattle.std.specs.Prelude.{ℕ, ℤ, Bool, true, false, List, Option, Some, None, option_map}
+use Rattle.std.specs.Prelude.{ℕ, ℤ, Bool, true, false, List, Option, Some, None}
 use Rattle.c_prog.specs.declared.expr.Var.{Var}
 use Rattle.c_prog.specs.declared.expr.Var.TheVariants as var
 use Rattle.c_prog.specs.declared.function.FnKind.{FnKind}

@@ -6,4 +6,4 @@ mod fault;
 mod laws;
 
 pub use fault::{Fault, FaultKind};
-pub use laws::a_text_spells_at_most_one_source;
+pub use laws::{a_text_spells_at_most_one_source, an_accepted_text_spells_a_source};
