@@ -1,0 +1,10 @@
+//! Control flow and calls of a whole program, for what follows both.
+#![tactic(auto)]
+
+mod build;
+mod control;
+#[cfg(test)]
+mod tests;
+
+pub use build::graphs;
+pub use control::Graphs;
