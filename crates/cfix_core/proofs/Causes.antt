@@ -3,18 +3,15 @@ use Rattle.std.proofs.Common.{◌≡◌, ◌≤◌, ◌<◌, ◌⊎◌, inl, inr
 use Rattle.cfix_outside.specs.Faults.{Rose}
 use Rattle.cfix_outside.specs.Shelves.{Files, Gives, Passes, IsLonger}
 use Rattle.cfix_core.specs.Words.{Names}
-use Rattle.cfix_core.specs.Stops.{stop_of, status_of, line_of}
-use Rattle.cfix_core.specs.Answers.{Holds, Writes, RefusedFor, LongFor, AcceptedFor, StillFor, MustFor, Cause, Noted, Accepted, Still, Must, Told, DoneFor, Refused}
+use Rattle.cfix_core.specs.Stops.{refusal_status, status_of, line_of}
+use Rattle.cfix_core.specs.Answers.{Holds, Writes, RefusedFor, LongFor, AcceptedFor, StillFor, MustFor, Cause, Noted, Accepted, Still, Must, Told, DoneFor, RefusedAs}
 use Rattle.cfix_core.specs.Repair.{Repaired, RefusedBy, IsAccepted}
-use Rattle.cfix_core.specs.declared.patch.Role.{Role}
 use Rattle.cfix_core.specs.declared.patch.Refusal.{Refusal}
-use Rattle.cfix_core.specs.declared.patch.Refusal.TheVariants as refused
 use Rattle.cfix_core.specs.declared.stop.NamedFile.{NamedFile}
 use Rattle.cfix_core.specs.declared.stop.NamedFile.TheVariants as named
 use Rattle.cfix_core.specs.declared.stop.Stop.{Stop}
-use Rattle.cfix_core.specs.declared.stop.Stop.TheVariants.{NoMemory, CannotRead, TooLong, CannotWrite, Source, Reports, OtherMode, NoSite}
-use Rattle.cfix_core.proofs.Repair.{not_refused}
-use Rattle.cfix_core.proofs.Refusals.{not_repaired, one_refusal}
+use Rattle.cfix_core.specs.declared.stop.Stop.TheVariants.{NoMemory, CannotRead, TooLong, CannotWrite, Refused}
+use Rattle.cfix_core.proofs.Repair.{not_refused, not_repaired, one_refusal}
 
 -- a file within its limit is not longer
 fits : (files : Files) (name bytes : List ℕ) (limit : ℕ) → Gives (Some files) name limit bytes → Passes (Some files) name limit → ⊥
@@ -52,20 +49,20 @@ moved P files names source reports source' reports' here there p =
     (subst Q (one_content files names.source source' source 4194304 there.program here.program) p)
 
 refused_once : (refusal other : Refusal) (names : Names) (files : Files) → RefusedFor refusal names (Some files)
-    → RefusedFor other names (Some files) → (other ≡ refusal) ⊎ ((other ≡ refused.NoMemory) ⊎ (refusal ≡ refused.NoMemory))
+    → RefusedFor other names (Some files) → other ≡ refusal
 refused_once refusal other names files p q =
     one_refusal refusal other p.source p.reports p.refused
     (moved (RefusedBy other) files names p.source p.reports q.source q.reports p.holds q.holds q.refused)
 
 refused_writes : (refusal : Refusal) (names : Names) (files : Files) (text : List ℕ) → RefusedFor refusal names (Some files)
-    → Writes (Some files) names text → refusal ≡ refused.NoMemory
+    → Writes (Some files) names text → ⊥
 refused_writes refusal names files text p q =
     let P : List ℕ → List ℕ → Type 0 = λ source reports. Repaired source reports text in
     not_repaired refusal p.source p.reports text
     (moved P files names p.source p.reports q.source q.reports p.holds q.holds q.repaired) p.refused
 
 refused_accepted : (refusal : Refusal) (names : Names) (files : Files) → RefusedFor refusal names (Some files)
-    → AcceptedFor names files → refusal ≡ refused.NoMemory
+    → AcceptedFor names files → ⊥
 refused_accepted refusal names files p q =
     not_refused refusal p.source p.reports
     (moved IsAccepted files names p.source p.reports q.source q.reports p.holds q.holds q.accepted) p.refused
@@ -79,8 +76,7 @@ record Long (stop : Stop) (names : Names) (files : Files) : Type 0 where
 -- the stop is that of a refusal
 record Other (stop : Stop) (names : Names) (files : Files) : Type 0 where
   refusal : Refusal
-  is : stop ≡ stop_of refusal
-  real : refusal ≡ refused.NoMemory → ⊥
+  is : stop ≡ Refused refusal
   why : RefusedFor refusal names (Some files)
 
 must_kind : (stop : Stop) (names : Names) (files : Files) → MustFor stop names files → Long stop names files ⊎ Other stop names files
@@ -88,10 +84,7 @@ must_kind NoMemory names files p = absurd p
 must_kind (CannotRead file) names files p = absurd p
 must_kind (TooLong file) names files p = inl (record { file = file; is = refl; long = p })
 must_kind CannotWrite names files p = absurd p
-must_kind Source names files p = inr (record { refusal = refused.Source; is = refl; real = λ e. cc; why = p })
-must_kind Reports names files p = inr (record { refusal = refused.Reports; is = refl; real = λ e. cc; why = p })
-must_kind OtherMode names files p = inr (record { refusal = refused.OtherMode; is = refl; real = λ e. cc; why = p })
-must_kind (NoSite role) names files p = inr (record { refusal = refused.NoSite role; is = refl; real = λ e. cc; why = p })
+must_kind (Refused refusal) names files p = inr (record { refusal = refusal; is = refl; why = p })
 
 -- the text was there, and the output's count rose
 record Cutting (names : Names) (files : Files) (out_before out_now : ℕ) : Type 0 where
@@ -107,10 +100,7 @@ cause_kind (CannotRead named.Program) names files before now old new out_before 
 cause_kind (CannotRead named.Reports) names files before now old new out_before out_now still p = absurd (still.listed p.rose)
 cause_kind (TooLong file) names files before now old new out_before out_now still p = inr (inl (record { file = file; is = refl; long = p }))
 cause_kind CannotWrite names files before now old new out_before out_now still p = inl (inr (record { text = p.0.text; writes = p.0.writes; rose = p.1 }))
-cause_kind Source names files before now old new out_before out_now still p = inr (inr (record { refusal = refused.Source; is = refl; real = λ e. cc; why = p }))
-cause_kind Reports names files before now old new out_before out_now still p = inr (inr (record { refusal = refused.Reports; is = refl; real = λ e. cc; why = p }))
-cause_kind OtherMode names files before now old new out_before out_now still p = inr (inr (record { refusal = refused.OtherMode; is = refl; real = λ e. cc; why = p }))
-cause_kind (NoSite role) names files before now old new out_before out_now still p = inr (inr (record { refusal = refused.NoSite role; is = refl; real = λ e. cc; why = p }))
+cause_kind (Refused refusal) names files before now old new out_before out_now still p = inr (inr (record { refusal = refusal; is = refl; why = p }))
 
 -- the same stop of two causes
 long_long : (stop other : Stop) (names : Names) (files : Files) → Long stop names files → Long other names files → other ≡ stop
@@ -119,19 +109,13 @@ long_long stop other names files p q = q.is ∙ ap TooLong (long_once p.file q.f
 long_other : (stop other : Stop) (names : Names) (files : Files) → Long stop names files → Other other names files → ⊥
 long_other stop other names files p q = long_holds p.file names files q.why.source q.why.reports p.long q.why.holds
 
-picked : (stop other : Stop) (names : Names) (files : Files) (p : Other stop names files) (q : Other other names files)
-    → (q.refusal ≡ p.refusal) ⊎ ((q.refusal ≡ refused.NoMemory) ⊎ (p.refusal ≡ refused.NoMemory)) → other ≡ stop
-picked stop other names files p q (inl e) = q.is ∙ ap stop_of e ∙ sym p.is
-picked stop other names files p q (inr (inl e)) = absurd (q.real e)
-picked stop other names files p q (inr (inr e)) = absurd (p.real e)
-
 other_other : (stop other : Stop) (names : Names) (files : Files) → Other stop names files → Other other names files → other ≡ stop
-other_other stop other names files p q = picked stop other names files p q (refused_once p.refusal q.refusal names files p.why q.why)
+other_other stop other names files p q = q.is ∙ ap Refused (refused_once p.refusal q.refusal names files p.why q.why) ∙ sym p.is
 
 must_cutting : (stop : Stop) (names : Names) (files : Files) (text : List ℕ) → Long stop names files ⊎ Other stop names files
     → Writes (Some files) names text → ⊥
 must_cutting stop names files text (inl p) q = long_holds p.file names files q.source q.reports p.long q.holds
-must_cutting stop names files text (inr p) q = p.real (refused_writes p.refusal names files text p.why q)
+must_cutting stop names files text (inr p) q = refused_writes p.refusal names files text p.why q
 
 meet : (stop other : Stop) (names : Names) (files : Files) (out_before out_now : ℕ) → Long stop names files ⊎ Other stop names files
     → ((other ≡ NoMemory) ⊎ Cutting names files out_before out_now) ⊎ (Long other names files ⊎ Other other names files)
@@ -191,7 +175,7 @@ accepted_kind stop names files out_before out_now accepted still (inl (inl e)) =
 accepted_kind stop names files out_before out_now accepted still (inl (inr q)) = absurd (still q.rose)
 accepted_kind stop names files out_before out_now accepted still (inr (inl q)) =
     absurd (long_holds q.file names files accepted.source accepted.reports q.long accepted.holds)
-accepted_kind stop names files out_before out_now accepted still (inr (inr q)) = absurd (q.real (refused_accepted q.refusal names files q.why accepted))
+accepted_kind stop names files out_before out_now accepted still (inr (inr q)) = absurd (refused_accepted q.refusal names files q.why accepted)
 
 complete_at : (stop : Stop) (names : Names) (files : Option Files) (before now : List ℕ → ℕ) (old new : Option (List ℕ)) (out_before out_now : ℕ)
     → Cause stop names files before now old new out_before out_now → Accepted (Some names) files → StillFor names before now
@@ -211,23 +195,19 @@ complete stop names asked files before now old new out_before out_now e cause =
     → (status_of stop ≡ 0) ⊎ (status_of stop ≡ 3) in
     subst P e (complete_at stop names files before now old new out_before out_now cause)
 
-site_at : (stop : Stop) (names : Names) (files : Option Files) (before now : List ℕ → ℕ) (old new : Option (List ℕ)) (out_before out_now : ℕ)
-    → status_of stop ≡ 8 → Cause stop names files before now old new out_before out_now
-    → (role : Role) × RefusedFor (refused.NoSite role) names files
-site_at NoMemory names files before now old new out_before out_now e cause = absurd (omega arith)
-site_at (CannotRead file) names files before now old new out_before out_now e cause = absurd (omega arith)
-site_at (TooLong file) names files before now old new out_before out_now e cause = absurd (omega arith)
-site_at CannotWrite names files before now old new out_before out_now e cause = absurd (omega arith)
-site_at Source names files before now old new out_before out_now e cause = absurd (omega arith)
-site_at Reports names files before now old new out_before out_now e cause = absurd (omega arith)
-site_at OtherMode names files before now old new out_before out_now e cause = absurd (omega arith)
-site_at (NoSite role) names files before now old new out_before out_now e cause = (role, cause)
+refused_at : (status : ℕ) (stop : Stop) (names : Names) (files : Option Files) (before now : List ℕ → ℕ) (old new : Option (List ℕ))
+    (out_before out_now : ℕ) → 5 < status → status_of stop ≡ status → Cause stop names files before now old new out_before out_now
+    → (refusal : Refusal) × (status ≡ refusal_status refusal) × RefusedFor refusal names files
+refused_at status NoMemory names files before now old new out_before out_now high e cause = absurd (omega (arith, high, e))
+refused_at status (CannotRead file) names files before now old new out_before out_now high e cause = absurd (omega (arith, high, e))
+refused_at status (TooLong file) names files before now old new out_before out_now high e cause = absurd (omega (arith, high, e))
+refused_at status CannotWrite names files before now old new out_before out_now high e cause = absurd (omega (arith, high, e))
+refused_at status (Refused refusal) names files before now old new out_before out_now high e cause = (refusal, sym e, cause)
 
--- the site that status 8 is about
-pub site_stop : (stop : Stop) (names : Names) (asked : Option Names) (files : Option Files) (before now : List ℕ → ℕ)
+-- why the files are refused, for a status above 5
+pub refused_stop : (status : ℕ) (stop : Stop) (names : Names) (asked : Option Names) (files : Option Files) (before now : List ℕ → ℕ)
     (old new : Option (List ℕ)) (out_before out_now : ℕ)
-    → Some names ≡ asked → Cause stop names files before now old new out_before out_now
-    → status_of stop ≡ 8 → (role : Role) × Refused (refused.NoSite role) asked files
-site_stop stop names asked files before now old new out_before out_now e cause is =
-    let P : Option Names → Type 0 = λ asked. (role : Role) × Refused (refused.NoSite role) asked files in
-    subst P e (site_at stop names files before now old new out_before out_now is cause)
+    → Some names ≡ asked → Cause stop names files before now old new out_before out_now → 5 < status
+    → status_of stop ≡ status → RefusedAs status asked files
+refused_stop status stop names asked files before now old new out_before out_now e cause high is =
+    subst (λ asked. RefusedAs status asked files) e (refused_at status stop names files before now old new out_before out_now high is cause)

@@ -1,14 +1,9 @@
-pub mod Many
 pub mod StraightFlow
 pub mod StraightOps
 pub mod StraightPlan
-pub mod StraightSites
-pub mod TextEquations
-pub mod TextExamples
-pub mod TextStraight
 pub mod Strip
-pub mod Json
+pub mod PlainSites
 pub mod Repair
-mod Refusals
+pub mod Repaired
 mod Notes
 mod Causes

@@ -1,21 +1,25 @@
 -- A straight main without its operations.
-use Rattle.std.proofs.Common.{◌≡◌, ℕ, ◌+◌, List, [], ◌∷◌, ap, ◌∙◌, refl}
+use Rattle.std.proofs.Common.{◌≡◌, ℕ, ◌+◌, List, [], ◌∷◌, Option, ap, ◌∙◌, refl}
 use Rattle.cfix_base.specs.declared.op.Op.{Op}
+use Rattle.c_prog.specs.declared.act.Act.{Act}
+use Rattle.c_prog.specs.declared.global.Global as global_module
+use Rattle.c_prog.specs.declared.stmt.Stmt.{Stmt}
 use Rattle.c_prog.specs.declared.stmt.Stmt.TheVariants as stmt
+use Rattle.c_prog.specs.declared.tree.Tree.{Tree}
 use Rattle.c_prog.specs.Strip.{strip_all, strip_tree}
 use Rattle.c_prog.proofs.Equations.{strip-Simple}
-use Rattle.cfix_core.specs.declared.plain.Plain.{Plain}
-use Rattle.cfix_core.specs.FirstForm.{FirstForm}
-use Rattle.cfix_core.specs.Straight.{act_of, with_ops, tree_of, tree_with}
-use Rattle.cfix_core.proofs.StraightOps.{tree_whose}
+use Rattle.first_form.specs.declared.region.Region.{Region}
+use Rattle.first_form.specs.Straight.{with_ops, main_with, bare, behind, guarded}
 
-strip_statements : (behind : ℕ → List Op) (k : ℕ) (list : List Plain)
-    → strip_all (with_ops behind k list) ≡ with_ops (λ n. []) k list
-strip_statements behind k [] = refl
-strip_statements behind k (p ∷ list) =
-    ap (λ s. s ∷ strip_all (with_ops behind (k + 1) list)) (strip-Simple (act_of p) (behind k))
-    ∙ ap (λ rest. stmt.Simple (act_of p) [] ∷ rest) (strip_statements behind (k + 1) list)
+strip_statements : (after : ℕ → List Op) (k : ℕ) (acts : List Act)
+    → strip_all (with_ops after k acts) ≡ with_ops (λ n. []) k acts
+strip_statements after k [] = refl
+strip_statements after k (a ∷ acts) =
+    ap (λ s. s ∷ strip_all (with_ops after (k + 1) acts)) (strip-Simple a (after k))
+    ∙ ap (λ rest. stmt.Simple a [] ∷ rest) (strip_statements after (k + 1) acts)
 
-pub strip_straight : (form : FirstForm) (start : List Op) (behind : ℕ → List Op)
-    → strip_tree (tree_with form start behind) ≡ tree_of form
-strip_straight form start behind = ap (tree_whose form []) (strip_statements behind 0 form.statements)
+pub strip_guarded : (globals : List global_module.Global) (acts : List Act) (region : Option Region)
+    → strip_tree (guarded globals acts region) ≡ bare globals acts
+strip_guarded globals acts region =
+    let with : List Stmt → Tree = λ body. record { globals = globals; functions = main_with [] body ∷ []; starts = [] } in
+    ap with (strip_statements (behind region) 0 acts)

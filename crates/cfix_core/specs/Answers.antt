@@ -4,14 +4,13 @@ use Rattle.cfix_outside.specs.Faults.{Rose}
 use Rattle.cfix_outside.specs.Shelves.{Files, Gives, Passes}
 use Rattle.cfix_outside.specs.Sinks.{Gained, GainedFront}
 use Rattle.cfix_core.specs.Words.{Names}
-use Rattle.cfix_core.specs.Stops.{name_of, limit_of, status_of, line_of, words_line}
+use Rattle.cfix_core.specs.Stops.{name_of, limit_of, refusal_status, status_of, line_of, words_line}
 use Rattle.cfix_core.specs.Repair.{Repaired, RefusedBy, IsAccepted}
 use Rattle.cfix_core.specs.declared.patch.Refusal.{Refusal}
-use Rattle.cfix_core.specs.declared.patch.Refusal.TheVariants as refused
 use Rattle.cfix_core.specs.declared.stop.NamedFile.{NamedFile}
 use Rattle.cfix_core.specs.declared.stop.NamedFile.TheVariants as named
 use Rattle.cfix_core.specs.declared.stop.Stop.{Stop}
-use Rattle.cfix_core.specs.declared.stop.Stop.TheVariants.{NoMemory, CannotRead, TooLong, CannotWrite, Source, Reports, OtherMode, NoSite}
+use Rattle.cfix_core.specs.declared.stop.Stop.TheVariants.{NoMemory, CannotRead, TooLong, CannotWrite, Refused}
 
 -- Below, `files` are those of the shelf, where it tells them, `before` and `now` its counts of faults
 -- by name, `old` and `new` the bytes that a sink has taken, where it tells them.
@@ -67,10 +66,7 @@ Cause NoMemory names files before now old new out_before out_now = Unit {0}
 Cause (CannotRead file) names files before now old new out_before out_now = UnreadFor file names files before now
 Cause (TooLong file) names files before now old new out_before out_now = LongFor file names files
 Cause CannotWrite names files before now old new out_before out_now = CutFor names files old new × Rose out_before out_now
-Cause Source names files before now old new out_before out_now = RefusedFor refused.Source names files
-Cause Reports names files before now old new out_before out_now = RefusedFor refused.Reports names files
-Cause OtherMode names files before now old new out_before out_now = RefusedFor refused.OtherMode names files
-Cause (NoSite role) names files before now old new out_before out_now = RefusedFor (refused.NoSite role) names files
+Cause (Refused refusal) names files before now old new out_before out_now = RefusedFor refusal names files
 
 -- what one read of a file stops with
 abbrev pub ReadCause : Stop → NamedFile → Names → Option Files → (List ℕ → ℕ) → (List ℕ → ℕ) → Type 0
@@ -111,9 +107,10 @@ abbrev pub ReadFails : Option Names → Option Files → (List ℕ → ℕ) → 
 ReadFails None files before now = ⊥
 ReadFails (Some names) files before now = (file : NamedFile) × (UnreadFor file names files before now ⊎ LongFor file names files)
 
-abbrev pub Refused : Refusal → Option Names → Option Files → Type 0
-Refused refusal None files = ⊥
-Refused refusal (Some names) files = RefusedFor refusal names files
+-- the files are refused for a reason of this status
+abbrev pub RefusedAs : ℕ → Option Names → Option Files → Type 0
+RefusedAs status None files = ⊥
+RefusedAs status (Some names) files = (refusal : Refusal) × (status ≡ refusal_status refusal) × RefusedFor refusal names files
 
 -- the files are told, within their limits, and nothing refuses them
 pub record AcceptedFor (names : Names) (files : Files) : Type 0 where
@@ -142,10 +139,7 @@ MustFor NoMemory names files = ⊥
 MustFor (CannotRead file) names files = ⊥
 MustFor (TooLong file) names files = LongFor file names (Some files)
 MustFor CannotWrite names files = ⊥
-MustFor Source names files = RefusedFor refused.Source names (Some files)
-MustFor Reports names files = RefusedFor refused.Reports names (Some files)
-MustFor OtherMode names files = RefusedFor refused.OtherMode names (Some files)
-MustFor (NoSite role) names files = RefusedFor (refused.NoSite role) names (Some files)
+MustFor (Refused refusal) names files = RefusedFor refusal names (Some files)
 
 abbrev pub Must : Stop → Option Names → Option Files → Type 0
 Must stop None files = ⊥

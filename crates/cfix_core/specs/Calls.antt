@@ -1,52 +1,13 @@
--- Calls, creations, roots, and the functions that every chain of calls enters through a set of nodes.
-use Rattle.std.specs.Prelude.{ℕ, ◌≡◌, ◌⊎◌, ◌+◌, ◌≤◌, ◌<◌, Bool, true, List, [], ◌∷◌, Option, Some, None, slice_get, codes}
+-- Roots, chains of calls, and the functions that every chain enters through a set of nodes.
+use Rattle.std.specs.Prelude.{ℕ, ◌≡◌, ◌⊎◌, ◌+◌, ◌≤◌, ◌<◌, Bool, List, [], ◌∷◌, Option, Some, None, slice_get, codes}
 use Rattle.std.specs.List.{Any}
-use Rattle.c_prog.specs.declared.act.Act.{Act}
-use Rattle.c_prog.specs.declared.act.Act.TheVariants as act
-use Rattle.c_prog.specs.declared.act.Value.{Value}
-use Rattle.c_prog.specs.declared.act.Value.TheVariants as value
-use Rattle.c_prog.specs.declared.stmt.Jump.{Jump}
-use Rattle.c_prog.specs.declared.stmt.Jump.TheVariants.{ReturnValue}
 use Rattle.c_prog.specs.declared.function.Function.{Function}
 use Rattle.c_prog.specs.declared.tree.Tree.{Tree}
+use Rattle.c_prog.specs.Calls.{callee, created}
 use Rattle.c_prog.specs.Nodes.{first_node, function_nodes}
-use Rattle.c_prog.specs.Order.{Node, act, cond, step, jump, node_at}
-
-abbrev pub called_by_value : Value → Option ℕ
-called_by_value (value.Expr e) = None
-called_by_value (value.Call c) = Some c.of.number
-
-abbrev pub called_initially : Option Value → Option ℕ
-called_initially None = None
-called_initially (Some v) = called_by_value v
-
-abbrev pub called_by_act : Act → Option ℕ
-called_by_act (act.Declare name kind initial) = called_initially initial
-called_by_act (act.Assign target how v) = called_by_value v
-called_by_act (act.Call c) = Some c.of.number
-called_by_act _ = None
-
-abbrev pub called_by_jump : Jump → Option ℕ
-called_by_jump (ReturnValue v) = called_by_value v
-called_by_jump _ = None
-
--- the function that an ordinary call node calls
-abbrev pub callee : Node → Option ℕ
-callee (act a after) = called_by_act a
-callee (cond c) = None
-callee (step s) = called_by_act s.act
-callee (jump j after) = called_by_jump j
-
-abbrev pub created_by_act : Act → Option ℕ
-created_by_act (act.Create target of arg) = Some of.number
-created_by_act _ = None
-
--- the function that a creation names
-abbrev pub created : Node → Option ℕ
-created (act a after) = created_by_act a
-created (cond c) = None
-created (step s) = created_by_act s.act
-created (jump j after) = None
+use Rattle.c_prog.specs.Order.{Node, node_at}
+use Rattle.flow_graph.specs.Flow.{fn_id}
+use Rattle.plan_types.specs.Sets as sets
 
 abbrev pub nodes_at : Option Function → ℕ
 nodes_at None = 0
@@ -60,13 +21,13 @@ IsIn tree n f = (first_node tree f ≤ n) × (n < first_node tree f + nodes_at (
 pub record Calls (tree : Tree) (n g : ℕ) : Type 0 where
   pub form : Node
   pub is_node : node_at tree n ≡ Some form
-  pub calls : callee form ≡ Some g
+  pub calls : callee form ≡ Some (fn_id g)
 
 -- the node creates a thread of the function
 pub record Creates (tree : Tree) (n g : ℕ) : Type 0 where
   pub form : Node
   pub is_node : node_at tree n ≡ Some form
-  pub creates : created form ≡ Some g
+  pub creates : created form ≡ Some (fn_id g)
 
 pub record IsMain (tree : Tree) (f : ℕ) : Type 0 where
   pub function : Function
@@ -90,5 +51,5 @@ pub record Chain (tree : Tree) (nodes : List ℕ) (g : ℕ) : Type 0 where
   pub leads : ChainFrom tree root nodes g
 
 -- every chain that leads to the function has a call node in the set
-abbrev pub IsCovered : Tree → (ℕ → Bool) → ℕ → Type 0
-IsCovered tree inside f = (nodes : List ℕ) → Chain tree nodes f → Any (λ n. inside n ≡ true) nodes
+abbrev pub IsCovered : Tree → List Bool → ℕ → Type 0
+IsCovered tree set f = (nodes : List ℕ) → Chain tree nodes f → Any (sets.IsIn set) nodes

@@ -1,8 +1,8 @@
 -- Functions and nodes that come to the access A of an order report.
 use Rattle.std.specs.Prelude.{ℕ, ◌≡◌, ◌⊎◌, List, [], ◌∷◌}
 use Rattle.c_prog.specs.declared.tree.Tree.{Tree}
-use Rattle.cfix_core.specs.Flow.{tree_edges}
-use Rattle.cfix_core.specs.Paths.{Comes, Reached}
+use Rattle.flow_graph.specs.Flow.{tree_edges}
+use Rattle.flow_graph.specs.Paths.{Comes, Reached}
 use Rattle.cfix_core.specs.Calls.{IsIn, Calls, Creates}
 
 -- through a list of functions, each of which has a node on a path from its first node that calls or

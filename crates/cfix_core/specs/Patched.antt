@@ -1,10 +1,11 @@
 -- The patched program: the program with the operations of every edge, and the orders that begin
 -- with a token.
-use Rattle.std.specs.Prelude.{ℕ, ◌≡◌, ◌+◌, ◌<◌, Bool, true, false, eqb, List, [], ◌∷◌, ◌++◌, map, length, Option, Some, None, if◌then◌else◌}
+use Rattle.std.specs.Prelude.{ℕ, ◌≡◌, ◌+◌, Bool, true, false, List, [], ◌∷◌, ◌++◌, map, length, All, Option, Some, None, if◌then◌else◌}
 use Rattle.cfix_base.specs.declared.number.OrderId.{OrderId}
 use Rattle.cfix_base.specs.declared.op.Op.{Op}
 use Rattle.cfix_base.specs.declared.place.Place.{Place}
 use Rattle.cfix_base.specs.declared.place.Place.TheVariants.{Start, After, True, False}
+use Rattle.cfix_base.specs.declared.access.AccessId.{AccessId}
 use Rattle.c_prog.specs.declared.stmt.Cond.{Cond}
 use Rattle.c_prog.specs.declared.stmt.Step.{Step}
 use Rattle.c_prog.specs.declared.stmt.Stmt.{Stmt}
@@ -14,12 +15,16 @@ use Rattle.c_prog.specs.declared.stmt.Stmt.TheFolds.{fold-Stmt}
 use Rattle.c_prog.specs.declared.function.Function.{Function}
 use Rattle.c_prog.specs.declared.tree.Tree.{Tree}
 use Rattle.c_prog.specs.Nodes.{total, step_nodes, tree_nodes}
-use Rattle.cfix_core.specs.Flow.{Edge, Next, node, fn_id, function_edges}
-use Rattle.cfix_core.specs.Paths.{entry}
+use Rattle.flow_graph.specs.Flow.{Edge, Next, node, fn_id, function_edges, same_place}
+use Rattle.flow_graph.specs.Paths.{entry}
+use Rattle.plan_types.specs.declared.bound.Bound.{Bound}
+use Rattle.plan_types.specs.declared.bound.Bound.TheVariants as bound
+use Rattle.plan_types.specs.declared.order_plan.OrderPlan.{OrderPlan}
+use Rattle.plan_types.specs.Classes.{AreClasses}
 use Rattle.cfix_core.specs.Calls.{IsRoot, IsMain, IsCovered}
-use Rattle.cfix_core.specs.Bounds.{Atom, Bound, atomicity, all_before, first_before, atoms_of, IsGrouping, InClassGuard}
+use Rattle.cfix_core.specs.Bounds.{IsSetOf, atoms_of, AreGuards}
 use Rattle.cfix_core.specs.Orders.{Reaches, MayCome}
-use Rattle.cfix_core.specs.Operations.{Numbers, ClassPlan, OrderPlan, Plan, within, edge_ops}
+use Rattle.cfix_core.specs.Operations.{ClassPlan, Plan, order, within, edge_ops}
 
 -- ---- operations put at each place of a tree
 
@@ -69,13 +74,6 @@ with_ops_from ops start list = build_all (map placed list) ops start
 
 -- ---- the operations at a place
 
-abbrev pub same_place : Place → Place → Bool
-same_place (Start f) (Start g) = eqb f.number g.number
-same_place (After n) (After m) = eqb n.number m.number
-same_place (True n) (True m) = eqb n.number m.number
-same_place (False n) (False m) = eqb n.number m.number
-same_place _ _ = false
-
 -- the edge of a place, unless the place is dead
 abbrev pub edge_at : Place → List Edge → Option Edge
 edge_at place [] = None
@@ -104,67 +102,57 @@ functions_with tree plan number first (function ∷ rest) =
     function_with (place_ops tree plan number (function_edges tree number function)) number first function
     ∷ functions_with tree plan (number + 1) (first + total (map placed_size (map placed function.body))) rest
 
--- an order begins with a token where the first node of main may come to a
-abbrev pub begins : Next → OrderPlan → Bool
-begins first order = within order.may first
+-- the orders that begin with a token, the numbers from j on
+abbrev pub starts_from : ℕ → List OrderPlan → List OrderId
+starts_from j [] = []
+starts_from j (plan ∷ rest) = (if plan.starts then order j ∷ [] else []) ++ starts_from (j + 1) rest
 
-abbrev pub starts_from : Next → ℕ → List OrderPlan → List OrderId
-starts_from first j [] = []
-starts_from first j (order ∷ rest) =
-    (if begins first order then record { number = j } ∷ [] else []) ++ starts_from first (j + 1) rest
-
--- the program with the operations and starts of a plan; `first` is the first node of main
-abbrev pub with_plan : Tree → Next → Plan → Tree
-with_plan tree first plan = record {
+-- the program with the operations and starts of a plan
+abbrev pub with_plan : Tree → Plan → Tree
+with_plan tree plan = record {
   globals = tree.globals;
   functions = functions_with tree plan 0 0 tree.functions;
-  starts = starts_from first 0 plan.orders;
+  starts = starts_from 0 plan.orders;
 }
 
 -- ---- the plan of bound reports
 
--- below the size, the test says which numbers have the property
-abbrev pub IsSetOf : ℕ → Numbers → (ℕ → Type 0) → Type 0
-IsSetOf size set P = (n : ℕ) → n < size → (set n ≡ true → P n) × (P n → set n ≡ true)
+-- the functions covered for a class
+abbrev pub IsClassPlan : Tree → ClassPlan → Type 0
+IsClassPlan tree plan = IsSetOf (length tree.functions) plan.covered (IsCovered tree plan.class.nodes)
 
-pub record IsClassPlan (tree : Tree) (atoms : List Atom) (members : List ℕ) (class : ClassPlan) : Type 0 where
-  pub inside : IsSetOf (tree_nodes tree) class.inside (InClassGuard tree atoms members)
-  pub covered : IsSetOf (length tree.functions) class.covered (IsCovered tree class.inside)
+-- the plan of the order report with this number; `entry` is the first node of main
+pub record IsOrderPlan (tree : Tree) (entry : Next) (j : ℕ) (first : Bool) (a b : AccessId) (plan : OrderPlan) : Type 0 where
+  pub number : plan.order ≡ order j
+  pub kind : plan.first ≡ first
+  pub is_a : plan.a ≡ a
+  pub is_b : plan.b ≡ b
+  pub may : IsSetOf (tree_nodes tree) plan.may (MayCome tree a.node.number)
+  pub reaches : IsSetOf (length tree.functions) plan.reaches (Reaches tree a.node.number)
+  pub starts : plan.starts ≡ within plan.may entry
 
-abbrev pub AreClassPlans : Tree → List Atom → List (List ℕ) → List ClassPlan → Type 0
-AreClassPlans tree atoms [] [] = Unit {0}
-AreClassPlans tree atoms (members ∷ rest) (class ∷ classes) =
-    IsClassPlan tree atoms members class × AreClassPlans tree atoms rest classes
-AreClassPlans tree atoms _ _ = ⊥
+-- the order reports, in order, the numbers from j on
+abbrev pub AreOrderPlans : Tree → Next → ℕ → List Bound → List OrderPlan → Type 0
+AreOrderPlans tree entry j [] [] = Unit {0}
+AreOrderPlans tree entry j (bound.Atom atom ∷ rest) plans = AreOrderPlans tree entry j rest plans
+AreOrderPlans tree entry j (bound.All a b ∷ rest) (plan ∷ plans) =
+    IsOrderPlan tree entry j false a b plan × AreOrderPlans tree entry (j + 1) rest plans
+AreOrderPlans tree entry j (bound.First a b ∷ rest) (plan ∷ plans) =
+    IsOrderPlan tree entry j true a b plan × AreOrderPlans tree entry (j + 1) rest plans
+AreOrderPlans tree entry j _ _ = ⊥
 
-pub record IsOrderPlan (tree : Tree) (first : Bool) (a b : ℕ) (order : OrderPlan) : Type 0 where
-  pub kind : order.first ≡ first
-  pub node_a : order.a ≡ a
-  pub node_b : order.b ≡ b
-  pub may : IsSetOf (tree_nodes tree) order.may (MayCome tree a)
-  pub reaches : IsSetOf (length tree.functions) order.reaches (Reaches tree a)
-
--- the order reports, in order
-abbrev pub AreOrderPlans : Tree → List Bound → List OrderPlan → Type 0
-AreOrderPlans tree [] [] = Unit {0}
-AreOrderPlans tree (atomicity atom ∷ rest) orders = AreOrderPlans tree rest orders
-AreOrderPlans tree (all_before a b ∷ rest) (order ∷ orders) =
-    IsOrderPlan tree false a.node.number b.node.number order × AreOrderPlans tree rest orders
-AreOrderPlans tree (first_before a b ∷ rest) (order ∷ orders) =
-    IsOrderPlan tree true a.node.number b.node.number order × AreOrderPlans tree rest orders
-AreOrderPlans tree _ _ = ⊥
-
-pub record IsPlan (tree : Tree) (bounds : List Bound) (plan : Plan) : Type 0 where
-  pub classes : List (List ℕ)
-  pub grouping : IsGrouping tree (atoms_of bounds) classes
-  pub class_plans : AreClassPlans tree (atoms_of bounds) classes plan.classes
-  pub order_plans : AreOrderPlans tree bounds plan.orders
+pub record IsPlan (tree : Tree) (entry : Next) (bounds : List Bound) (plan : Plan) : Type 0 where
+  pub guards : List (List Bool)
+  pub are_guards : AreGuards tree (atoms_of bounds) guards
+  pub classes : AreClasses guards (map (λ class. class.class) plan.classes)
+  pub covered : All (IsClassPlan tree) plan.classes
+  pub orders : AreOrderPlans tree entry 0 bounds plan.orders
   pub roots : IsSetOf (length tree.functions) plan.roots (IsRoot tree)
 
 -- q is the program patched for these bound reports
 pub record IsPatched (tree : Tree) (bounds : List Bound) (q : Tree) : Type 0 where
-  pub plan : Plan
-  pub is_plan : IsPlan tree bounds plan
   pub main : ℕ
   pub is_main : IsMain tree main
-  pub is_q : q ≡ with_plan tree (entry tree main) plan
+  pub plan : Plan
+  pub is_plan : IsPlan tree (entry tree main) bounds plan
+  pub is_q : q ≡ with_plan tree plan

@@ -1,144 +1,178 @@
 -- What `patch` makes of the bytes of its two files, and why it refuses them.
-use Rattle.std.specs.Prelude.{ℕ, ◌≡◌, true, false, List, [], ◌∷◌, Option, Some, None, option_and_then, if◌then◌else◌}
-use Rattle.std.specs.Str.{is_utf8}
-use Rattle.serde_json.specs.Data.{Data}
-use Rattle.serde_json.specs.Read.{read as read_json}
+use Rattle.std.specs.Prelude.{ℕ, ◌≡◌, ◌⊎◌, true, false, List, [], ◌∷◌, Option, Some, None}
 use Rattle.cfix_base.specs.declared.access.AccessId.{AccessId}
 use Rattle.c_prog.specs.declared.tree.Tree.{Tree}
+use Rattle.c_prog.specs.Lines.{SourceTree}
 use Rattle.c_prog.specs.Strip.{strip_tree}
-use Rattle.cfix_core.specs.FirstForm.{FirstForm, first_form}
-use Rattle.cfix_core.specs.Report.{ReportForm, SiteForm, only_report}
+use Rattle.c_print.specs.Text.Canonical.{canonical}
+use Rattle.plan_types.specs.declared.bound.Bound.TheVariants as bound
+use Rattle.report_json.specs.declared.fault.ReportFault.{ReportFault}
+use Rattle.report_json.specs.declared.fault.ReportFault.TheVariants as fault
+use Rattle.report_json.specs.declared.report.Report.{Report}
+use Rattle.report_json.specs.declared.report.Site.{Site}
+use Rattle.report_json.specs.Reading.{SpellsReports, ExplainsReportFault}
+use Rattle.first_form.specs.Form.{is_first_form}
+use Rattle.first_form.specs.Spelled.{spelled}
+use Rattle.first_form.specs.declared.region.Region.{Region}
+use Rattle.cfix_core.specs.OneReport.{Trio, only_report}
 use Rattle.cfix_core.specs.Sites.{site_in, in_one_visit, visit_atom}
-use Rattle.cfix_core.specs.Bounds.{atomicity}
 use Rattle.cfix_core.specs.Patched.{IsPatched}
-use Rattle.cfix_core.specs.Straight.{tree_of}
-use Rattle.cfix_core.specs.Text.Canonical.{canonical}
 use Rattle.cfix_core.specs.declared.patch.Role.{Role}
 use Rattle.cfix_core.specs.declared.patch.Role.TheVariants.{P, C, R}
 use Rattle.cfix_core.specs.declared.patch.Refusal.{Refusal}
-use Rattle.cfix_core.specs.declared.patch.Refusal.TheVariants.{NoMemory, Source, Reports, NoSite, OtherMode}
+use Rattle.cfix_core.specs.declared.patch.Refusal.TheVariants.{Source, NotJson, Shape, TooMany, Reports, NoSite, OtherMode}
+use Rattle.cfix_core.specs.declared.patch.Failure.{Failure}
+use Rattle.cfix_core.specs.declared.patch.Failure.TheVariants as failure
 
--- the value that bytes spell as JSON, if they do
-abbrev pub json_of : List ℕ → Option Data
-json_of bytes = if is_utf8 bytes then read_json bytes else None
+-- the source spells this program with these lines, which is of the first form
+pub record IsSource (text : List ℕ) (source : SourceTree) : Type 0 where
+  pub spells : spelled text ≡ Some source
+  pub form : is_first_form source.tree ≡ true
 
--- the report of the first form that bytes spell, if they do
-abbrev pub first_report : List ℕ → Option ReportForm
-first_report bytes = option_and_then only_report (json_of bytes)
+abbrev pub NoSource : List ℕ → Type 0
+NoSource text = (source : SourceTree) → IsSource text source → ⊥
 
--- the source spells this program of the first form
-abbrev pub IsSource : List ℕ → FirstForm → Type 0
-IsSource source form = first_form source ≡ Some form
+-- the reports are one atomicity report with these sites, without stacks
+pub record IsTrio (reports : List ℕ) (trio : Trio) : Type 0 where
+  pub list : List Report
+  pub spells : SpellsReports reports list
+  pub only : only_report list ≡ Some trio
 
--- the reports spell this report of the first form
-abbrev pub IsReport : List ℕ → ReportForm → Type 0
-IsReport reports report = first_report reports ≡ Some report
+-- the reports are read, and are not of the first form
+pub record OtherReports (reports : List ℕ) : Type 0 where
+  pub list : List Report
+  pub spells : SpellsReports reports list
+  pub other : only_report list ≡ None
 
 -- both files are of the first form
 pub record Reads (source reports : List ℕ) : Type 0 where
-  pub form : FirstForm
-  pub is_source : IsSource source form
-  pub report : ReportForm
-  pub is_report : IsReport reports report
+  pub program : SourceTree
+  pub is_source : IsSource source program
+  pub trio : Trio
+  pub is_trio : IsTrio reports trio
 
 -- the site means this access
-abbrev pub Means : FirstForm → SiteForm → AccessId → Type 0
-Means form site access = site_in form site ≡ Some access
+abbrev pub Means : SourceTree → Site → AccessId → Type 0
+Means program site access = site_in program site ≡ Some access
 
 -- no access is meant by the site
-abbrev pub MeansNone : FirstForm → SiteForm → Type 0
-MeansNone form site = site_in form site ≡ None
+abbrev pub MeansNone : SourceTree → Site → Type 0
+MeansNone program site = site_in program site ≡ None
 
 -- the sites of p, c and r mean these accesses
-pub record Binds (form : FirstForm) (report : ReportForm) : Type 0 where
+pub record Binds (program : SourceTree) (trio : Trio) : Type 0 where
   pub p : AccessId
-  pub is_p : Means form report.p p
+  pub is_p : Means program trio.p p
   pub c : AccessId
-  pub is_c : Means form report.c c
+  pub is_c : Means program trio.c c
   pub r : AccessId
-  pub is_r : Means form report.r r
+  pub is_r : Means program trio.r r
 
 -- p, c and r mean accesses, and p stands before c in one node
-pub record Visits (form : FirstForm) (report : ReportForm) : Type 0 where
-  pub binds : Binds form report
+pub record Visits (program : SourceTree) (trio : Trio) : Type 0 where
+  pub binds : Binds program trio
   pub one_visit : in_one_visit binds.p binds.c ≡ true
 
 -- `text` is the canonical text of the program patched for the report, and without its operations
 -- that is the program
-pub record IsRepaired (form : FirstForm) (report : ReportForm) (text : List ℕ) : Type 0 where
-  pub visits : Visits form report
+pub record IsRepaired (program : SourceTree) (trio : Trio) (text : List ℕ) : Type 0 where
+  pub visits : Visits program trio
   pub q : Tree
-  pub is_patched : IsPatched (tree_of form)
-      (atomicity (visit_atom visits.binds.p visits.binds.c visits.binds.r) ∷ []) q
-  pub stripped : strip_tree q ≡ tree_of form
+  pub is_patched : IsPatched program.tree
+      (bound.Atom (visit_atom visits.binds.p visits.binds.c visits.binds.r) ∷ []) q
+  pub stripped : strip_tree q ≡ program.tree
   pub is_text : text ≡ canonical q
 
 -- the first site, in the order p, c, r, that means no access
-abbrev pub LacksSite : Role → FirstForm → ReportForm → Type 0
-LacksSite P form report = MeansNone form report.p
-LacksSite C form report = ((p : AccessId) × Means form report.p p) × MeansNone form report.c
-LacksSite R form report =
-    ((p : AccessId) × Means form report.p p) × ((c : AccessId) × Means form report.c c) × MeansNone form report.r
+abbrev pub LacksSite : Role → SourceTree → Trio → Type 0
+LacksSite P program trio = MeansNone program trio.p
+LacksSite C program trio = ((p : AccessId) × Means program trio.p p) × MeansNone program trio.c
+LacksSite R program trio =
+    ((p : AccessId) × Means program trio.p p) × ((c : AccessId) × Means program trio.c c) × MeansNone program trio.r
 
 -- the sites mean accesses, and p does not stand before c in one node
-pub record OtherVisits (form : FirstForm) (report : ReportForm) : Type 0 where
-  pub binds : Binds form report
+pub record OtherVisits (program : SourceTree) (trio : Trio) : Type 0 where
+  pub binds : Binds program trio
   pub other : in_one_visit binds.p binds.c ≡ false
 
--- why a report is refused for a program; want of memory needs no reason
-abbrev pub IsRefused : Refusal → FirstForm → ReportForm → Type 0
-IsRefused NoMemory form report = Unit {0}
-IsRefused Source form report = ⊥
-IsRefused Reports form report = ⊥
-IsRefused (NoSite role) form report = LacksSite role form report
-IsRefused OtherMode form report = OtherVisits form report
+-- what the sites of a report are refused for
+abbrev pub Unbound : Refusal → SourceTree → Trio → Type 0
+Unbound (NoSite role) program trio = LacksSite role program trio
+Unbound OtherMode program trio = OtherVisits program trio
+Unbound _ program trio = ⊥
 
--- the same for the report that the reports are, if they are one
-abbrev pub RepairedBy : FirstForm → Option ReportForm → List ℕ → Type 0
-RepairedBy form None text = ⊥
-RepairedBy form (Some report) text = IsRepaired form report text
+-- the refusal for a fault of the text of the reports; want of memory is none
+abbrev pub refusal_of : ReportFault → Option Refusal
+refusal_of fault.NoMemory = None
+refusal_of fault.BadJson = Some NotJson
+refusal_of (fault.Shape which) = Some (Shape which)
+refusal_of fault.TooMany = Some TooMany
 
-abbrev pub RefusedFor : Refusal → FirstForm → Option ReportForm → Type 0
-RefusedFor NoMemory form report = Unit {0}
-RefusedFor Source form report = ⊥
-RefusedFor Reports form report = report ≡ None
-RefusedFor (NoSite role) form None = ⊥
-RefusedFor (NoSite role) form (Some report) = LacksSite role form report
-RefusedFor OtherMode form None = ⊥
-RefusedFor OtherMode form (Some report) = OtherVisits form report
+-- the text of the reports has this fault
+pub record Faulty (refusal : Refusal) (reports : List ℕ) : Type 0 where
+  pub fault : ReportFault
+  pub is_fault : refusal_of fault ≡ Some refusal
+  pub explained : ExplainsReportFault reports fault
 
-abbrev pub RefusesSource : Refusal → List ℕ → Type 0
-RefusesSource NoMemory source = Unit {0}
-RefusesSource Source source = first_form source ≡ None
-RefusesSource Reports source = ⊥
-RefusesSource (NoSite role) source = ⊥
-RefusesSource OtherMode source = ⊥
+-- what reports are refused for, whatever the program
+abbrev pub Wrong : Refusal → List ℕ → Type 0
+Wrong refusal reports = Faulty refusal reports ⊎ ((refusal ≡ Reports) × OtherReports reports)
+
+-- the source is read, and the reports are refused
+pub record RefusesReports (refusal : Refusal) (source reports : List ℕ) : Type 0 where
+  pub program : SourceTree
+  pub is_source : IsSource source program
+  pub wrong : Wrong refusal reports
+
+-- both files are read, and the sites are refused
+pub record RefusesSites (refusal : Refusal) (source reports : List ℕ) : Type 0 where
+  pub reads : Reads source reports
+  pub unbound : Unbound refusal reads.program reads.trio
+
+-- why the files are refused: for the source, for the reports, or for the sites
+abbrev pub RefusedBy : Refusal → List ℕ → List ℕ → Type 0
+RefusedBy refusal source reports =
+    ((refusal ≡ Source) × NoSource source) ⊎ (RefusesReports refusal source reports ⊎ RefusesSites refusal source reports)
 
 -- nothing refuses the files
 pub record IsAccepted (source reports : List ℕ) : Type 0 where
   pub reads : Reads source reports
-  pub visits : Visits reads.form reads.report
+  pub visits : Visits reads.program reads.trio
 
 -- `text` is what is written for the files
 pub record Repaired (source reports text : List ℕ) : Type 0 where
   pub reads : Reads source reports
-  pub repaired : IsRepaired reads.form reads.report text
+  pub repaired : IsRepaired reads.program reads.trio text
 
--- the source is of the first form, and the reports are not
-pub record RefusesReports (source reports : List ℕ) : Type 0 where
-  pub form : FirstForm
-  pub is_source : IsSource source form
-  pub no_report : first_report reports ≡ None
+-- why a stage fails; want of memory needs no reason
+abbrev pub FailsBy : (Refusal → Type 0) → Failure → Type 0
+FailsBy Why failure.NoMemory = Unit {0}
+FailsBy Why (failure.Refused refusal) = Why refusal
 
--- the files are of the first form, and the report is refused for the program
-pub record RefusesReport (refusal : Refusal) (source reports : List ℕ) : Type 0 where
-  pub reads : Reads source reports
-  pub refused : IsRefused refusal reads.form reads.report
+-- the failure for a fault of the text of the reports
+abbrev pub failure_of : ReportFault → Failure
+failure_of fault.NoMemory = failure.NoMemory
+failure_of fault.BadJson = failure.Refused NotJson
+failure_of (fault.Shape which) = failure.Refused (Shape which)
+failure_of fault.TooMany = failure.Refused TooMany
 
--- why the files are refused; want of memory needs no reason
-abbrev pub RefusedBy : Refusal → List ℕ → List ℕ → Type 0
-RefusedBy NoMemory source reports = Unit {0}
-RefusedBy Source source reports = first_form source ≡ None
-RefusedBy Reports source reports = RefusesReports source reports
-RefusedBy (NoSite role) source reports = RefusesReport (NoSite role) source reports
-RefusedBy OtherMode source reports = RefusesReport OtherMode source reports
+-- p, c and r mean accesses, p stands before c in one node, and these are the nodes of p and r
+pub record IsRegion (program : SourceTree) (trio : Trio) (region : Region) : Type 0 where
+  pub visits : Visits program trio
+  pub here : region.here ≡ visits.binds.p.node.number
+  pub there : region.there ≡ visits.binds.r.node.number
+
+-- the same for reports that were read
+pub record RepairedFor (program : SourceTree) (list : List Report) (text : List ℕ) : Type 0 where
+  pub trio : Trio
+  pub only : only_report list ≡ Some trio
+  pub repaired : IsRepaired program trio text
+
+pub record UnboundFor (refusal : Refusal) (program : SourceTree) (list : List Report) : Type 0 where
+  pub trio : Trio
+  pub only : only_report list ≡ Some trio
+  pub unbound : Unbound refusal program trio
+
+abbrev pub RefusedWith : Refusal → SourceTree → List Report → Type 0
+RefusedWith refusal program list =
+    ((refusal ≡ Reports) × (only_report list ≡ None)) ⊎ UnboundFor refusal program list

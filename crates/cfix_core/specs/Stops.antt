@@ -1,15 +1,17 @@
 -- Why a command was not done: the status and the line to the notes of each reason.
-use Rattle.std.specs.Prelude.{ℕ, List, [], ◌∷◌, ◌++◌, codes}
+use Rattle.std.specs.Prelude.{ℕ, List, [], ◌∷◌, ◌++◌, codes, Option, Some, None}
 use Rattle.std.specs.Fmt.{decimal}
 use Rattle.cfix_core.specs.Words.{Names}
 use Rattle.cfix_core.specs.declared.patch.Role.{Role}
 use Rattle.cfix_core.specs.declared.patch.Role.TheVariants.{P, C, R}
 use Rattle.cfix_core.specs.declared.patch.Refusal.{Refusal}
 use Rattle.cfix_core.specs.declared.patch.Refusal.TheVariants as refused
+use Rattle.cfix_core.specs.declared.patch.Failure.{Failure}
+use Rattle.cfix_core.specs.declared.patch.Failure.TheVariants as failure
 use Rattle.cfix_core.specs.declared.stop.NamedFile.{NamedFile}
 use Rattle.cfix_core.specs.declared.stop.NamedFile.TheVariants as named
 use Rattle.cfix_core.specs.declared.stop.Stop.{Stop}
-use Rattle.cfix_core.specs.declared.stop.Stop.TheVariants.{NoMemory, CannotRead, TooLong, CannotWrite, Source, Reports, OtherMode, NoSite}
+use Rattle.cfix_core.specs.declared.stop.Stop.TheVariants.{NoMemory, CannotRead, TooLong, CannotWrite, Refused}
 
 -- a file's name among the words, and the greatest length of it in bytes
 abbrev pub name_of : NamedFile → Names → List ℕ
@@ -20,22 +22,26 @@ abbrev pub limit_of : NamedFile → ℕ
 limit_of named.Program = 4194304
 limit_of named.Reports = 1048576
 
-abbrev pub stop_of : Refusal → Stop
-stop_of refused.NoMemory = NoMemory
-stop_of refused.Source = Source
-stop_of refused.Reports = Reports
-stop_of (refused.NoSite role) = NoSite role
-stop_of refused.OtherMode = OtherMode
+abbrev pub stop_of : Failure → Stop
+stop_of failure.NoMemory = NoMemory
+stop_of (failure.Refused refusal) = Refused refusal
+
+-- 6 for the source, 7 for the reports, 8 for a site
+abbrev pub refusal_status : Refusal → ℕ
+refusal_status refused.Source = 6
+refusal_status refused.NotJson = 7
+refusal_status (refused.Shape which) = 7
+refusal_status refused.TooMany = 7
+refusal_status refused.Reports = 7
+refusal_status (refused.NoSite role) = 8
+refusal_status refused.OtherMode = 7
 
 abbrev pub status_of : Stop → ℕ
 status_of NoMemory = 3
 status_of (CannotRead file) = 4
 status_of (TooLong file) = 4
 status_of CannotWrite = 5
-status_of Source = 6
-status_of Reports = 7
-status_of OtherMode = 7
-status_of (NoSite role) = 8
+status_of (Refused refusal) = refusal_status refusal
 
 abbrev pub letter_of : Role → List ℕ
 letter_of P = codes "p"
@@ -61,12 +67,26 @@ long_line name limit = codes "cfix: " ++ (name ++ (codes " is longer than " ++ l
 abbrev pub site_line : Role → List ℕ
 site_line role = codes "cfix: report 0: no site for " ++ ended (letter_of role)
 
+abbrev pub report_shape_line : ℕ → List ℕ
+report_shape_line number = codes "cfix: report " ++ (decimal number ++ ended (codes ": wrong shape"))
+
+-- the outer shape of the reports, or the shape of the report with this number
+abbrev pub shape_line : Option ℕ → List ℕ
+shape_line None = ended (codes "cfix: reports: wrong shape")
+shape_line (Some number) = report_shape_line number
+
+abbrev pub refusal_line : Refusal → List ℕ
+refusal_line refused.Source = ended (codes "cfix: source is outside the first form")
+refusal_line refused.NotJson = ended (codes "cfix: reports: not JSON")
+refusal_line (refused.Shape which) = shape_line which
+refusal_line refused.TooMany = ended (codes "cfix: reports: more than 200")
+refusal_line refused.Reports = ended (codes "cfix: reports: outside the first form")
+refusal_line (refused.NoSite role) = site_line role
+refusal_line refused.OtherMode = ended (codes "cfix: reports: outside the first form")
+
 abbrev pub line_of : Names → Stop → List ℕ
 line_of names NoMemory = ended (codes "cfix: no memory")
 line_of names (CannotRead file) = read_line (name_of file names)
 line_of names (TooLong file) = long_line (name_of file names) (limit_of file)
 line_of names CannotWrite = ended (codes "cfix: cannot write")
-line_of names Source = ended (codes "cfix: source is outside the first form")
-line_of names Reports = ended (codes "cfix: reports: outside the first form")
-line_of names OtherMode = ended (codes "cfix: reports: outside the first form")
-line_of names (NoSite role) = site_line role
+line_of names (Refused refusal) = refusal_line refusal

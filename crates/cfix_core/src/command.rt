@@ -45,7 +45,7 @@ pub(crate) fn work<H: Shelf, O: Sink>(
     let reports = read_file(alloc, request, NamedFile::Reports, shelf)?;
     let text = match patched(alloc, &source, &reports) {
         Ok(text) => text,
-        Err(refusal) => return Err(stop_of(refusal)),
+        Err(failure) => return Err(stop_of(failure)),
     };
     match put_text(out, &text) {
         Ok(()) => Ok(()),

@@ -2,19 +2,15 @@
 #![tactic(auto)]
 
 mod command;
-mod cursor;
 mod note;
+mod one_report;
 mod patch;
-mod plain;
-mod print;
-mod report;
 mod site;
-mod source;
 mod stop;
 #[cfg(test)]
 mod tests;
 mod top;
 mod words;
 
-pub use patch::{Refusal, Role, patched};
+pub use patch::{Failure, Refusal, Role, patched};
 pub use top::run;

@@ -2,10 +2,10 @@ ghost use Rattle.std.specs.Prelude.{◌≡◌, ◌≤◌, ◌++◌, OnOk, OnErr}
 ghost use Rattle.cfix_outside.specs.Faults.{Rose};
 ghost use Rattle.cfix_outside.specs.Sinks.{Gained, GainedFront};
 ghost use Rattle.cfix_core.specs.Words.{names_of};
-ghost use Rattle.cfix_core.specs.Stops.{limit_end, long_line, site_line, line_of, words_line};
+ghost use Rattle.cfix_core.specs.Stops.{limit_end, long_line, site_line, report_shape_line, shape_line, refusal_line, line_of, words_line};
 ghost use Rattle.cfix_core.specs.Answers.{Noted};
 
-use crate::patch::Role;
+use crate::patch::{Refusal, Role};
 use crate::stop::{Stop, limit_of, name_of};
 use crate::words::Request;
 use cfix_outside::{Sink, SinkFault};
@@ -63,6 +63,47 @@ fn site_line(role: Role) -> &'static [u8]
     }
 }
 
+fn put_report_shape<N: Sink>(note: &mut N, number: u32) -> Result<(), SinkFault>
+    ensures taken { OnOk result (Gained (N.taken note.old) (N.taken note.new) (report_shape_line number)) }
+    ensures front { OnErr result (GainedFront (N.taken note.old) (N.taken note.new) (report_shape_line number)) }
+    ensures cause { OnErr result (Rose (N.faults note.old) (N.faults note.new)) }
+{
+    let mut buffer = Buffer::new();
+    put_three(
+        note,
+        b"cfix: report ",
+        buffer.format(number),
+        b": wrong shape\n",
+    )
+}
+
+fn put_shape<N: Sink>(note: &mut N, which: Option<u32>) -> Result<(), SinkFault>
+    ensures taken { OnOk result (Gained (N.taken note.old) (N.taken note.new) (shape_line which)) }
+    ensures front { OnErr result (GainedFront (N.taken note.old) (N.taken note.new) (shape_line which)) }
+    ensures cause { OnErr result (Rose (N.faults note.old) (N.faults note.new)) }
+{
+    match which {
+        None => note.put(b"cfix: reports: wrong shape\n"),
+        Some(number) => put_report_shape(note, number),
+    }
+}
+
+fn put_refusal<N: Sink>(note: &mut N, refusal: Refusal) -> Result<(), SinkFault>
+    ensures taken { OnOk result (Gained (N.taken note.old) (N.taken note.new) (refusal_line refusal)) }
+    ensures front { OnErr result (GainedFront (N.taken note.old) (N.taken note.new) (refusal_line refusal)) }
+    ensures cause { OnErr result (Rose (N.faults note.old) (N.faults note.new)) }
+{
+    match refusal {
+        Refusal::Source => note.put(b"cfix: source is outside the first form\n"),
+        Refusal::NotJson => note.put(b"cfix: reports: not JSON\n"),
+        Refusal::Shape(which) => put_shape(note, which),
+        Refusal::TooMany => note.put(b"cfix: reports: more than 200\n"),
+        Refusal::Reports => note.put(b"cfix: reports: outside the first form\n"),
+        Refusal::NoSite(role) => note.put(site_line(role)),
+        Refusal::OtherMode => note.put(b"cfix: reports: outside the first form\n"),
+    }
+}
+
 fn put_line<N: Sink>(note: &mut N, request: &Request<'_>, stop: Stop) -> Result<(), SinkFault>
     ensures taken { OnOk result (Gained (N.taken note.old) (N.taken note.new) (line_of (names_of request.now) stop)) }
     ensures front { OnErr result (GainedFront (N.taken note.old) (N.taken note.new) (line_of (names_of request.now) stop)) }
@@ -78,10 +119,7 @@ fn put_line<N: Sink>(note: &mut N, request: &Request<'_>, stop: Stop) -> Result<
         ),
         Stop::TooLong(file) => put_long_line(note, name_of(request, file), limit_of(file)),
         Stop::CannotWrite => note.put(b"cfix: cannot write\n"),
-        Stop::Source => note.put(b"cfix: source is outside the first form\n"),
-        Stop::Reports => note.put(b"cfix: reports: outside the first form\n"),
-        Stop::OtherMode => note.put(b"cfix: reports: outside the first form\n"),
-        Stop::NoSite(role) => note.put(site_line(role)),
+        Stop::Refused(refusal) => put_refusal(note, refusal),
     }
 }
 

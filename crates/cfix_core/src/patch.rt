@@ -1,18 +1,19 @@
-ghost use Rattle.std.specs.Prelude.{◌≡◌, ◌<◌, ◌≤◌, length, IfOk, IfErr, option_map};
-ghost use Rattle.cfix_core.specs.Repair.{Repaired, RefusedBy, IsRepaired, IsRefused, RepairedBy, RefusedFor, RefusesSource, IsSource, json_of, first_report};
-ghost use Rattle.serde_json.specs.View.{view};
-ghost use Rattle.cfix_core.specs.Report.{only_report};
-ghost use Rattle.cfix_core.specs.Sites.{site_in};
-ghost use Rattle.cfix_core.specs.Seen.{seen_source, IsSmall};
-ghost use Rattle.cfix_core.specs.SeenReport.{seen_site, seen_report};
+ghost use Rattle.std.specs.Prelude.{◌≡◌, ◌<◌, ◌≤◌, length, true, Some, None, IfOk, IfErr};
+ghost use Rattle.first_form.specs.Form.{is_first_form, plains_of};
+ghost use Rattle.report_json.specs.Reading.{SpellsReports};
+ghost use Rattle.cfix_core.specs.OneReport.{seen_sites};
+ghost use Rattle.cfix_core.specs.Repair.{IsSource, NoSource, IsTrio, Wrong, Unbound, IsRepaired, Means, MeansNone, Repaired, RefusedBy, RepairedFor, RefusedWith, FailsBy, failure_of, IsRegion};
+ghost use Rattle.c_print.specs.Text.Canonical.{canonical};
+ghost use Rattle.first_form.specs.Form.{acts_of};
+ghost use Rattle.first_form.specs.Straight.{guarded};
 
-use crate::plain::Source;
-use crate::print::patched_text;
-use crate::report::{Report, Site, only_report};
+use crate::one_report::{Sites, only_report};
 use crate::site::{find_site, in_one_visit};
-use crate::source::read_source;
-use cfix_base::AccessId;
-use serde_json::Value;
+use c_print::print;
+use c_prog::Source;
+use cfix_base::{AccessId, NoMemory};
+use first_form::{Plain, Region, first_source, guarded, is_first_form, plains_of};
+use report_json::{ReportFault, Reports, Site, reports};
 use std::alloc::Global;
 
 /// A site of an atomicity report.
@@ -23,112 +24,174 @@ pub enum Role {
     R,
 }
 
-/// Why the two files are refused: the source is not of the first form; the reports are not of the
-/// first form; a site is not found; p does not stand before c in one node.
+/// Why the two files are refused.
 #[derive(Clone, Copy, Debug, PartialEq, Eq)]
 pub enum Refusal {
-    NoMemory,
+    /// The source is not of the first form.
     Source,
+    /// The reports are no JSON.
+    NotJson,
+    /// The outer value of the reports has another shape (none), or the report of this number is the
+    /// first that has.
+    Shape(Option<u32>),
+    /// There are more reports than may be.
+    TooMany,
+    /// The reports are not of the first form.
     Reports,
+    /// This site means no access.
     NoSite(Role),
+    /// The sites mean accesses, and p does not stand before c in one node.
     OtherMode,
 }
 
-/// The JSON value of the reports.
-fn value_of(alloc: Global, reports: &[u8]) -> Result<Option<Value>, Refusal>
-    ensures value { IfOk result (λ found. option_map view found ≡ json_of reports.now) }
-    ensures memory { IfErr result (λ refusal. refusal ≡ Refusal.NoMemory) }
-{
-    match Value::from_slice(alloc, reports) {
-        Ok(value) => Ok(Some(value)),
-        Err(error) => {
-            if error.is_memory() {
-                Err(Refusal::NoMemory)
-            } else {
-                Ok(None)
-            }
-        }
+/// Why a stage did not answer.
+#[derive(Clone, Copy, Debug, PartialEq, Eq)]
+pub enum Failure {
+    NoMemory,
+    Refused(Refusal),
+}
+
+impl From<NoMemory> for Failure {
+    ghost use Rattle.cfix_core.specs.declared.patch.Failure.TheVariants as failure;
+
+    ghost from_gives = { λ _ given. given ≡ failure.NoMemory };
+
+    fn from(_: NoMemory) -> Failure {
+        Failure::NoMemory
     }
 }
 
-fn site_access(source: &Source, site: &Site<'_>, role: Role) -> Result<AccessId, Refusal>
-    requires { length source.now.statements.items ≤ 20000 }
-    ensures found { IfOk result (λ id. (site_in (seen_source source.now) (seen_site site.now) ≡ Some id) × (id.node.number < length source.now.statements.items)) }
-    ensures missing { IfErr result (λ refusal. (refusal ≡ Refusal.NoSite role) × (site_in (seen_source source.now) (seen_site site.now) ≡ None)) }
+/// The program of the first form that a text spells, with its lines.
+fn source_of(alloc: Global, text: &[u8]) -> Result<Source, Failure>
+    requires { length text.now ≤ 4194304 }
+    ensures read { IfOk result (λ source. IsSource text.now source) }
+    ensures refused { IfErr result (FailsBy (λ refusal. (refusal ≡ Refusal.Source) × NoSource text.now)) }
 {
-    match find_site(source, site) {
+    match first_source(alloc, text)? {
+        Some(source) => {
+            if is_first_form(source.program()) {
+                Ok(source)
+            } else {
+                Err(Failure::Refused(Refusal::Source))
+            }
+        }
+        None => Err(Failure::Refused(Refusal::Source)),
+    }
+}
+
+/// The failure for a fault of the text of the reports.
+fn failure_of(fault: ReportFault) -> Failure
+    ensures { result ≡ failure_of fault }
+{
+    match fault {
+        ReportFault::NoMemory => Failure::NoMemory,
+        ReportFault::BadJson => Failure::Refused(Refusal::NotJson),
+        ReportFault::Shape(which) => Failure::Refused(Refusal::Shape(which)),
+        ReportFault::TooMany => Failure::Refused(Refusal::TooMany),
+    }
+}
+
+/// The reports that a text spells.
+fn reports_of(alloc: Global, text: &[u8]) -> Result<Reports, Failure>
+    ensures read { IfOk result (SpellsReports text.now) }
+    ensures refused { IfErr result (FailsBy (λ refusal. Wrong refusal text.now)) }
+{
+    match reports(alloc, text) {
+        Ok(list) => Ok(list),
+        Err(fault) => Err(failure_of(fault)),
+    }
+}
+
+/// The access that a site means.
+fn access_of(
+    source: &Source,
+    plains: &[Plain],
+    site: &Site,
+    role: Role,
+) -> Result<AccessId, Refusal>
+    requires form { is_first_form source.now.tree ≡ true }
+    requires statements { plains.now ≡ plains_of source.now.tree }
+    ensures found { IfOk result (λ id. Means source.now site.now id) }
+    ensures within { IfOk result (λ id. id.node.number < length plains.now) }
+    ensures missing { IfErr result (λ refusal. (refusal ≡ Refusal.NoSite role) × MeansNone source.now site.now) }
+{
+    match find_site(source, plains, site) {
         Some(id) => Ok(id),
         None => Err(Refusal::NoSite(role)),
     }
 }
 
+/// The nodes of p and r, if p, c and r mean accesses and p stands before c in one node.
+fn bound_region(source: &Source, plains: &[Plain], sites: &Sites<'_>) -> Result<Region, Refusal>
+    requires form { is_first_form source.now.tree ≡ true }
+    requires statements { plains.now ≡ plains_of source.now.tree }
+    ensures bound { IfOk result (λ region. IsRegion source.now (seen_sites sites.now) region) }
+    ensures within { IfOk result (λ region. (region.here < length plains.now) × (region.there < length plains.now)) }
+    ensures refused { IfErr result (λ refusal. Unbound refusal source.now (seen_sites sites.now)) }
+{
+    let p = access_of(source, plains, sites.p, Role::P)?;
+    let c = access_of(source, plains, sites.c, Role::C)?;
+    let r = access_of(source, plains, sites.r, Role::R)?;
+    if in_one_visit(p, c) {
+        Ok(Region {
+            here: p.node.number,
+            there: r.node.number,
+        })
+    } else {
+        Err(Refusal::OtherMode)
+    }
+}
+
+/// The text of a program of the first form with the operations round a region.
+fn guarded_text(
+    alloc: Global,
+    source: &Source,
+    plains: &[Plain],
+    region: Region,
+) -> Result<Vec<u8>, NoMemory>
+    requires form { is_first_form source.now.tree ≡ true }
+    requires statements { plains.now ≡ plains_of source.now.tree }
+    ensures { IfOk result (λ text. text.items ≡ canonical (guarded source.now.tree.globals (acts_of plains.now) (Some region))) }
+{
+    let program = guarded(alloc, source.program(), plains, region)?;
+    print(alloc, &program)
+}
+
 /// The text of the program patched for a report.
-fn patched_for(alloc: Global, source: &Source, report: &Report<'_>) -> Result<Vec<u8>, Refusal>
-    requires { IsSmall source.now }
-    ensures done { IfOk result (λ text. IsRepaired (seen_source source.now) (seen_report report.now) text.items) }
-    ensures refused { IfErr result (λ refusal. IsRefused refusal (seen_source source.now) (seen_report report.now)) }
+fn patched_for(alloc: Global, source: &Source, sites: &Sites<'_>) -> Result<Vec<u8>, Failure>
+    requires { is_first_form source.now.tree ≡ true }
+    ensures done { IfOk result (λ text. IsRepaired source.now (seen_sites sites.now) text.items) }
+    ensures refused { IfErr result (FailsBy (λ refusal. Unbound refusal source.now (seen_sites sites.now))) }
 {
-    let p = site_access(source, &report.p, Role::P)?;
-    let c = site_access(source, &report.c, Role::C)?;
-    let r = site_access(source, &report.r, Role::R)?;
-    if !in_one_visit(p, c) {
-        return Err(Refusal::OtherMode);
-    }
-    match patched_text(alloc, source, p.node.number, r.node.number) {
-        Ok(text) => Ok(text),
-        Err(_) => Err(Refusal::NoMemory),
+    let plains = plains_of(alloc, source.program())?;
+    match bound_region(source, plains.as_slice(), sites) {
+        Ok(region) => Ok(guarded_text(alloc, source, plains.as_slice(), region)?),
+        Err(refusal) => Err(Failure::Refused(refusal)),
     }
 }
 
-/// The text of the program patched for the reports that are this JSON value.
-fn patched_by(alloc: Global, source: &Source, value: &Value) -> Result<Vec<u8>, Refusal>
-    requires { IsSmall source.now }
-    ensures done { IfOk result (λ text. RepairedBy (seen_source source.now) (only_report (view value.now)) text.items) }
-    ensures refused { IfErr result (λ refusal. RefusedFor refusal (seen_source source.now) (only_report (view value.now))) }
+/// The text of the program patched for reports that were read.
+fn patched_by(alloc: Global, source: &Source, list: &Reports) -> Result<Vec<u8>, Failure>
+    requires { is_first_form source.now.tree ≡ true }
+    ensures done { IfOk result (λ text. RepairedFor source.now list.now text.items) }
+    ensures refused { IfErr result (FailsBy (λ refusal. RefusedWith refusal source.now list.now)) }
 {
-    match only_report(value) {
-        Some(report) => patched_for(alloc, source, &report),
-        None => Err(Refusal::Reports),
-    }
-}
-
-/// The text of the program patched for the reports that these bytes spell.
-fn patched_source(alloc: Global, source: &Source, reports: &[u8]) -> Result<Vec<u8>, Refusal>
-    requires { IsSmall source.now }
-    ensures done { IfOk result (λ text. RepairedBy (seen_source source.now) (first_report reports.now) text.items) }
-    ensures refused { IfErr result (λ refusal. RefusedFor refusal (seen_source source.now) (first_report reports.now)) }
-{
-    match value_of(alloc, reports)? {
-        Some(value) => patched_by(alloc, source, &value),
-        None => Err(Refusal::Reports),
-    }
-}
-
-fn source_of(alloc: Global, text: &[u8]) -> Result<Source, Refusal>
-    requires { length text.now ≤ 4194304 }
-    ensures read { IfOk result (λ source. IsSource text.now (seen_source source) × IsSmall source) }
-    ensures refused { IfErr result (λ refusal. RefusesSource refusal text.now) }
-{
-    match read_source(alloc, text) {
-        Ok(Some(source)) => Ok(source),
-        Ok(None) => Err(Refusal::Source),
-        Err(_) => Err(Refusal::NoMemory),
+    match only_report(list.as_slice()) {
+        Some(sites) => patched_for(alloc, source, &sites),
+        None => Err(Failure::Refused(Refusal::Reports)),
     }
 }
 
 /// The text of the patched program, of the bytes of the two files.
-#[tactic(auto, using(crate::proofs::Repair::repaired_whole, crate::proofs::Repair::refused_whole, crate::proofs::Repair::refused_source))]
-pub fn patched(alloc: Global, source: &[u8], reports: &[u8]) -> Result<Vec<u8>, Refusal>
+pub fn patched(alloc: Global, source: &[u8], reports: &[u8]) -> Result<Vec<u8>, Failure>
     requires { length source.now ≤ 4194304 }
     ensures done { IfOk result (λ text. Repaired source.now reports.now text.items) }
-    ensures refused { IfErr result (λ refusal. RefusedBy refusal source.now reports.now) }
+    ensures refused { IfErr result (FailsBy (λ refusal. RefusedBy refusal source.now reports.now)) }
 {
-    let program = match source_of(alloc, source) {
-        Ok(program) => program,
-        Err(refusal) => return Err(refusal),
-    };
-    match patched_source(alloc, &program, reports) {
+    let program = source_of(alloc, source)?;
+    let list = reports_of(alloc, reports)?;
+    match patched_by(alloc, &program, &list) {
         Ok(text) => Ok(text),
-        Err(refusal) => Err(refusal),
+        Err(failure) => Err(failure),
     }
 }

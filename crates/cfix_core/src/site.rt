@@ -1,17 +1,25 @@
-ghost use Rattle.std.specs.Prelude.{◌≡◌, ◌+◌, ◌<◌, ◌≤◌, length, IfSome};
-ghost use Rattle.cfix_core.specs.StraightSites.{global_name, fits, place_in, straight_site, at_index};
-ghost use Rattle.cfix_core.specs.Sites.{same_access, in_one_visit};
-ghost use Rattle.cfix_core.specs.SeenReport.{seen_site};
+ghost use Rattle.std.specs.Prelude.{◌≡◌, ◌<◌, length, slice_get, true, Some, IfSome};
+ghost use Rattle.first_form.specs.Form.{is_first_form, plains_of};
+ghost use Rattle.cfix_core.specs.Sites.{name_of, same_access, is_meant, access_at, fits, site_in, in_one_visit};
+ghost use Rattle.cfix_core.specs.PlainSites.{touch_at, touch_fits, plain_fits, meant_at};
 
-use crate::plain::{Plain, Source, Use};
-use crate::report::Site;
-use cfix_base::{Access, AccessId, List, NodeId};
+use c_prog::{Global as Variable, Source};
+use cfix_base::{Access, AccessId, VarId};
+use first_form::Plain;
+use report_json::Site;
 
-fn global_name(names: &[List<u8>], place: u32) -> &[u8]
-    ensures { result.now ≡ global_name names.now place }
+/// An access to a variable.
+#[derive(Clone, Copy)]
+pub struct Touched {
+    pub var: VarId,
+    pub access: Access,
+}
+
+fn name_of(globals: &[Variable], var: VarId) -> &[u8]
+    ensures { result.now ≡ name_of (slice_get globals.now var.number) }
 {
-    match names.get(place as usize) {
-        Some(name) => name.as_slice(),
+    match globals.get(var.number as usize) {
+        Some(global) => global.name.as_slice(),
         None => &[],
     }
 }
@@ -31,52 +39,99 @@ fn same_access(left: Access, right: Access) -> bool
     }
 }
 
-/// Whether this use of a variable is an access that the site means.
-fn fits(names: &[List<u8>], site: &Site<'_>, of: Use, access: Access) -> bool
-    ensures { result ≡ fits names.now (seen_site site.now) of access }
+fn read(var: VarId) -> Touched
+    ensures { result ≡ record { var = var; access = Access.Read } }
 {
-    global_name(names, of.var) == site.var.as_bytes()
-        && (same_access(access, site.access) && of.line == site.line)
-}
-
-/// The number of the first access of a statement that the site means.
-fn place_in(names: &[List<u8>], site: &Site<'_>, statement: &Plain) -> Option<u32>
-    ensures value { result ≡ place_in names.now (seen_site site.now) statement.now }
-{
-    let (first, second) = match *statement {
-        Plain::SetNumber { to, .. } => {
-            return if fits(names, site, to, Access::Write) {
-                Some(0)
-            } else {
-                None
-            };
-        }
-        Plain::SetVariable { to, from } => (from, to),
-        Plain::Up(of) => (of, of),
-    };
-    if fits(names, site, first, Access::Read) {
-        Some(0)
-    } else if fits(names, site, second, Access::Write) {
-        Some(1)
-    } else {
-        None
+    Touched {
+        var,
+        access: Access::Read,
     }
 }
 
-/// The first access of the statements that the site means.
-pub fn find_site(source: &Source, site: &Site<'_>) -> Option<AccessId>
-    requires { length source.now.statements.items ≤ 20000 }
-    ensures value { result ≡ straight_site source.now.globals (seen_site site.now) 0 source.now.statements.items }
-    ensures exists { IfSome result (λ id. id.node.number < length source.now.statements.items) }
+fn written(var: VarId) -> Touched
+    ensures { result ≡ record { var = var; access = Access.Write } }
 {
-    for (number, statement) in source.statements.iter().enumerate() {
-        if let Some(index) = place_in(source.globals.as_slice(), site, statement) {
-            return Some(AccessId {
-                node: NodeId {
-                    number: number as u32,
-                },
-                index,
-            });
+    Touched {
+        var,
+        access: Access::Write,
+    }
+}
+
+/// The access with this number, counted from 0, of a statement.
+fn touch_at(plain: Plain, index: u32) -> Option<Touched>
+    ensures { result ≡ touch_at plain index }
+{
+    match (plain, index) {
+        (Plain::SetNumber { to, .. }, 0) => Some(written(to)),
+        (Plain::SetVariable { from, .. }, 0) => Some(read(from)),
+        (Plain::SetVariable { to, .. }, 1) => Some(written(to)),
+        (Plain::Up(id), 0) => Some(read(id)),
+        (Plain::Up(id), 1) => Some(written(id)),
+        _ => None,
+    }
+}
+
+fn touch_fits(globals: &[Variable], site: &Site, touch: Touched) -> bool
+    ensures { result ≡ touch_fits globals.now site.now (Some touch) }
+{
+    name_of(globals, touch.var) == site.var.as_slice() && same_access(touch.access, site.access)
+}
+
+fn plain_fits(globals: &[Variable], site: &Site, index: u32, plain: Plain) -> bool
+    ensures { result ≡ plain_fits globals.now site.now index (Some plain) }
+{
+    match touch_at(plain, index) {
+        Some(touch) => touch_fits(globals, site, touch),
+        None => false,
+    }
+}
+
+/// Whether an access of the statements is to the variable of the site, and of its kind.
+fn meant_at(globals: &[Variable], plains: &[Plain], site: &Site, id: AccessId) -> bool
+    ensures value { result ≡ meant_at globals.now plains.now site.now id }
+    ensures within { result ≡ true → id.node.number < length plains.now }
+{
+    match plains.get(id.node.number as usize) {
+        Some(plain) => plain_fits(globals, site, id.index, *plain),
+        None => false,
+    }
+}
+
+/// Whether an access of the program is to the variable of the site, and of its kind.
+fn is_meant(source: &Source, plains: &[Plain], site: &Site, id: AccessId) -> bool
+    requires form { is_first_form source.now.tree ≡ true }
+    requires statements { plains.now ≡ plains_of source.now.tree }
+    ensures value { result ≡ is_meant source.now.tree site.now (access_at source.now.tree id) }
+    ensures within { result ≡ true → id.node.number < length plains.now }
+{
+    let globals = source.program().tree().globals.as_slice();
+    meant_at(globals, plains, site, id)
+}
+
+/// Whether an access on this line fits a site.
+fn fits(source: &Source, plains: &[Plain], site: &Site, id: AccessId, line: u32) -> bool
+    requires form { is_first_form source.now.tree ≡ true }
+    requires statements { plains.now ≡ plains_of source.now.tree }
+    ensures value { result ≡ fits source.now.tree site.now (id, line) }
+    ensures within { result ≡ true → id.node.number < length plains.now }
+{
+    line == site.line && is_meant(source, plains, site, id)
+}
+
+/// The access that a site means in a program of the first form, whose statements these are.
+pub fn find_site(source: &Source, plains: &[Plain], site: &Site) -> Option<AccessId>
+    requires form { is_first_form source.now.tree ≡ true }
+    requires statements { plains.now ≡ plains_of source.now.tree }
+    ensures value { result ≡ site_in source.now site.now }
+    ensures within { IfSome result (λ id. id.node.number < length plains.now) }
+{
+    let mut left = site.nth;
+    for (id, line) in source.lines().accesses() {
+        if fits(source, plains, site, *id, *line) {
+            if left == 0 {
+                return Some(*id);
+            }
+            left -= 1;
         }
     }
     None

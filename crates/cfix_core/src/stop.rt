@@ -1,8 +1,8 @@
 ghost use Rattle.std.specs.Prelude.{◌≡◌};
 ghost use Rattle.cfix_core.specs.Words.{names_of};
-ghost use Rattle.cfix_core.specs.Stops.{name_of, limit_of, stop_of, status_of};
+ghost use Rattle.cfix_core.specs.Stops.{name_of, limit_of, stop_of, refusal_status, status_of};
 
-use crate::patch::{Refusal, Role};
+use crate::patch::{Failure, Refusal};
 use crate::words::Request;
 use cfix_base::{MAX_REPORTS_BYTES, MAX_SOURCE_BYTES};
 
@@ -23,14 +23,8 @@ pub enum Stop {
     TooLong(NamedFile),
     /// The output's count rose.
     CannotWrite,
-    /// The source is not of the first form.
-    Source,
-    /// The reports are not of the first form.
-    Reports,
-    /// The sites are found, and p does not stand before c in one node.
-    OtherMode,
-    /// This site is not found.
-    NoSite(Role),
+    /// The files are refused.
+    Refused(Refusal),
 }
 
 pub(crate) fn name_of<'w>(request: &Request<'w>, file: NamedFile) -> &'w str
@@ -51,15 +45,26 @@ pub(crate) fn limit_of(file: NamedFile) -> usize
     }
 }
 
-pub(crate) fn stop_of(refusal: Refusal) -> Stop
-    ensures { result ≡ stop_of refusal }
+pub(crate) fn stop_of(failure: Failure) -> Stop
+    ensures { result ≡ stop_of failure }
+{
+    match failure {
+        Failure::NoMemory => Stop::NoMemory,
+        Failure::Refused(refusal) => Stop::Refused(refusal),
+    }
+}
+
+fn refusal_status(refusal: Refusal) -> u8
+    ensures { result ≡ refusal_status refusal }
 {
     match refusal {
-        Refusal::NoMemory => Stop::NoMemory,
-        Refusal::Source => Stop::Source,
-        Refusal::Reports => Stop::Reports,
-        Refusal::NoSite(role) => Stop::NoSite(role),
-        Refusal::OtherMode => Stop::OtherMode,
+        Refusal::Source => 6,
+        Refusal::NotJson => 7,
+        Refusal::Shape(_) => 7,
+        Refusal::TooMany => 7,
+        Refusal::Reports => 7,
+        Refusal::NoSite(_) => 8,
+        Refusal::OtherMode => 7,
     }
 }
 
@@ -71,9 +76,6 @@ pub(crate) fn status_of(stop: Stop) -> u8
         Stop::CannotRead(_) => 4,
         Stop::TooLong(_) => 4,
         Stop::CannotWrite => 5,
-        Stop::Source => 6,
-        Stop::Reports => 7,
-        Stop::OtherMode => 7,
-        Stop::NoSite(_) => 8,
+        Stop::Refused(refusal) => refusal_status(refusal),
     }
 }

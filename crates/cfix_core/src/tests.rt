@@ -1,5 +1,6 @@
 mod examples;
 mod failing;
 mod limits;
+mod reports;
 mod scene;
 mod wording;

@@ -1,9 +1,7 @@
 ghost use Rattle.std.specs.Prelude.{◌≡◌, ◌≢◌, ◌≤◌, ◌⊎◌, ◌↔◌, None};
 ghost use Rattle.cfix_outside.specs.Faults.{Rose};
 ghost use Rattle.cfix_core.specs.Words.{texts, request_of};
-ghost use Rattle.cfix_core.specs.Answers.{Done, Cut, ReadFails, Refused, Accepted, Still, Must, Told, Spoken};
-ghost use Rattle.cfix_core.specs.declared.patch.Role.{Role};
-ghost use Rattle.cfix_core.specs.declared.patch.Refusal.TheVariants as refused;
+ghost use Rattle.cfix_core.specs.Answers.{Done, Cut, ReadFails, RefusedAs, Accepted, Still, Must, Told, Spoken};
 ghost use Rattle.cfix_core.specs.declared.stop.Stop.{Stop};
 
 use crate::command::work;
@@ -29,9 +27,9 @@ pub fn run<H: Shelf, O: Sink, N: Sink>(
     ensures memory { result ≡ 3 → request_of (texts words.now) ≢ None }
     ensures read { result ≡ 4 → ReadFails (request_of (texts words.now)) (H.files shelf.old) (H.faults shelf.old) (H.faults shelf.new) }
     ensures write { result ≡ 5 → Rose (O.faults out.old) (O.faults out.new) }
-    ensures source { result ≡ 6 → Refused refused.Source (request_of (texts words.now)) (H.files shelf.old) }
-    ensures reports { result ≡ 7 → Refused refused.Reports (request_of (texts words.now)) (H.files shelf.old) ⊎ Refused refused.OtherMode (request_of (texts words.now)) (H.files shelf.old) }
-    ensures site { result ≡ 8 → (role : Role) × Refused (refused.NoSite role) (request_of (texts words.now)) (H.files shelf.old) }
+    ensures source { result ≡ 6 → RefusedAs 6 (request_of (texts words.now)) (H.files shelf.old) }
+    ensures reports { result ≡ 7 → RefusedAs 7 (request_of (texts words.now)) (H.files shelf.old) }
+    ensures site { result ≡ 8 → RefusedAs 8 (request_of (texts words.now)) (H.files shelf.old) }
 
     // What stands in the output.
     ensures cut { result ≡ 5 → Cut (request_of (texts words.now)) (H.files shelf.old) (O.taken out.old) (O.taken out.new) }

@@ -47,6 +47,30 @@ const NO_C: &[u8] = b"{\"reports\":[{\"kind\":\"atomicity\",
  \"r\":{\"line\":5,\"var\":\"a\",\"access\":\"write\"}}]}
 ";
 
+/// Two statements on one line, line 3.
+const TWICE: &[u8] = b"int a;\nint main(void) {\na++; a++;\n}\n";
+
+/// p and c are in the second of them, and r is in the first.
+const TWICE_REPORT: &[u8] = b"{\"reports\":[{\"kind\":\"atomicity\",
+ \"p\":{\"line\":3,\"var\":\"a\",\"access\":\"read\",\"nth\":1},
+ \"c\":{\"line\":3,\"var\":\"a\",\"access\":\"write\",\"nth\":1,\"stack\":[]},
+ \"r\":{\"line\":3,\"var\":\"a\",\"access\":\"write\",\"nth\":0}}]}
+";
+
+const TWICE_PATCHED: &[u8] = b"#include <pthread.h>
+#include <stdio.h>
+#include \"cfix.h\"
+
+int a = 0;
+
+int main(void) {
+    cfix_enter(0);
+    a++;
+    a++;
+    cfix_leave(0);
+}
+";
+
 /// p and c are in two nodes.
 const TWO_NODES: &[u8] = b"{\"reports\":[{\"kind\":\"atomicity\",
  \"p\":{\"line\":4,\"var\":\"a\",\"access\":\"read\"},
@@ -79,8 +103,7 @@ fn the_examples_are_patched_or_refused(rt: HostRuntime) {
         (THREE, NO_SITE, 8, b"", b"cfix: report 0: no site for p\n"),
         (THREE, TWO_NODES, 7, b"", outside),
         (THREE, TURNED, 7, b"", outside),
-        (THREE, b"", 7, b"", outside),
-        (THREE, b"\xff", 7, b"", outside),
+        (TWICE, TWICE_REPORT, 0, TWICE_PATCHED, b""),
         (
             b"",
             THREE_REPORT,

@@ -37,11 +37,7 @@ fn any_other_names_are_files(rt: HostRuntime) {
             b"cfix: cannot read p-c\n".as_slice(),
         ),
         (["patch", "", "r.json"], 4, b"cfix: cannot read \n"),
-        (
-            ["patch", "p.c", "p.c"],
-            7,
-            b"cfix: reports: outside the first form\n",
-        ),
+        (["patch", "p.c", "p.c"], 7, b"cfix: reports: not JSON\n"),
     ] {
         let scene = Scene {
             words: &words,

@@ -15,16 +15,6 @@ returns-in-CannotWrite-clause-front g c =
     let P : Stop → Type 0 = λ stop. OnErr c.put-in-CannotWrite.result (GainedFront (g.N.Sink.taken c.args.note.now) (g.N.Sink.taken c.put-in-CannotWrite.new.self) (line_of (names_of c.args.request.now) stop)) in
     subst P (sym c.in-CannotWrite.is) c.put-in-CannotWrite.ensures.front
 
-pub returns-in-Source-clause-taken : goal.returns-in-Source-clause-taken
-returns-in-Source-clause-taken g c =
-    let P : Stop → Type 0 = λ stop. OnOk c.put-in-Source.result (Gained (g.N.Sink.taken c.args.note.now) (g.N.Sink.taken c.put-in-Source.new.self) (line_of (names_of c.args.request.now) stop)) in
-    subst P (sym c.in-Source.is) c.put-in-Source.ensures.taken
-
-pub returns-in-Source-clause-front : goal.returns-in-Source-clause-front
-returns-in-Source-clause-front g c =
-    let P : Stop → Type 0 = λ stop. OnErr c.put-in-Source.result (GainedFront (g.N.Sink.taken c.args.note.now) (g.N.Sink.taken c.put-in-Source.new.self) (line_of (names_of c.args.request.now) stop)) in
-    subst P (sym c.in-Source.is) c.put-in-Source.ensures.front
-
 pub returns-in-CannotRead-clause-taken : goal.returns-in-CannotRead-clause-taken
 returns-in-CannotRead-clause-taken g c =
     let P : Stop → Type 0 = λ stop. OnOk c.put_three.result (Gained (g.N.Sink.taken c.args.note.now) (g.N.Sink.taken c.put_three.new.note) (line_of (names_of c.args.request.now) stop)) in

@@ -1,9 +1,8 @@
-use Rattle.std.proofs.Common.{◌≡◌, drop}
-use Rattle.cfix_core.specs.StraightSites.{straight_site}
-use Rattle.cfix_core.specs.SeenReport.{seen_site}
+use Rattle.std.proofs.Common.{◌≡◌, drop, filter, slice_get}
+use Rattle.cfix_core.specs.Sites.{fits}
 use Rattle.cfix_core.proofs.site.find_site.Given as goal
 
-abbrev pub invariant-loop-number : goal.invariant-loop-number
-invariant-loop-number l =
-    straight_site l.source.globals (seen_site l.site) l.number (drop l.number l.source.statements.items)
-    ≡ straight_site l.source.globals (seen_site l.site) 0 l.source.statements.items
+abbrev pub invariant-loop-id : goal.invariant-loop-id
+invariant-loop-id l =
+    slice_get (filter (fits l.source.tree l.site) (drop l.id-index l.source.lines.accesses)) l.left
+    ≡ slice_get (filter (fits l.source.tree l.site) l.source.lines.accesses) l.site.nth

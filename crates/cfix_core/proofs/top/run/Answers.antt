@@ -1,7 +1,7 @@
-use Rattle.std.proofs.Common.{◌≡◌, ◌⊎◌, ℕ, sym, subst, ◌∙◌}
+use Rattle.std.proofs.Common.{◌≡◌, ◌⊎◌, ℕ, ◌<◌, sym, subst, ◌∙◌, arith}
 use Rattle.cfix_core.specs.Words.{texts, names_of, request_of}
 use Rattle.cfix_core.specs.Answers.{Told}
-use Rattle.cfix_core.proofs.Causes.{exact_stop, exact_done, complete, site_stop}
+use Rattle.cfix_core.proofs.Causes.{exact_stop, exact_done, complete, refused_stop}
 use Rattle.cfix_core.proofs.top.run.Goals as goal
 
 pub returns-in-Err-clause-exact : goal.returns-in-Err-clause-exact
@@ -20,6 +20,17 @@ pub returns-in-Ok-clause-exact : goal.returns-in-Ok-clause-exact
 returns-in-Ok-clause-exact g c = λ stop must still.
     absurd (exact_done stop (names_of c.in-Some.request) _ _ _ _ c.in-Some.ensures c.in-Ok.ensures.done must)
 
+pub returns-in-Err-clause-source : goal.returns-in-Err-clause-source
+returns-in-Err-clause-source g c = λ status.
+    refused_stop 6 c.in-Err.stop (names_of c.in-Some.request) _ _ _ _ _ _ _ _ c.in-Some.ensures c.in-Err.ensures.cause (omega arith)
+    (sym c.status_of.ensures ∙ status)
+
+pub returns-in-Err-clause-reports : goal.returns-in-Err-clause-reports
+returns-in-Err-clause-reports g c = λ status.
+    refused_stop 7 c.in-Err.stop (names_of c.in-Some.request) _ _ _ _ _ _ _ _ c.in-Some.ensures c.in-Err.ensures.cause (omega arith)
+    (sym c.status_of.ensures ∙ status)
+
 pub returns-in-Err-clause-site : goal.returns-in-Err-clause-site
 returns-in-Err-clause-site g c = λ status.
-    site_stop c.in-Err.stop (names_of c.in-Some.request) _ _ _ _ _ _ _ _ c.in-Some.ensures c.in-Err.ensures.cause (sym c.status_of.ensures ∙ status)
+    refused_stop 8 c.in-Err.stop (names_of c.in-Some.request) _ _ _ _ _ _ _ _ c.in-Some.ensures c.in-Err.ensures.cause (omega arith)
+    (sym c.status_of.ensures ∙ status)

@@ -1,0 +1,6 @@
+pub mod Many
+pub mod Sound
+pub mod Forms
+pub mod Acts
+pub mod Lined
+pub mod FirstTrees
