@@ -1,7 +1,7 @@
 -- What a token is, as the grammar's tests tell it.
 use Rattle.std.specs.Prelude.{option_map}
 use Rattle.std.specs.Str.{bytes_eq}
-use Rattle.std.proofs.Common.{◌≡◌, ℕ, ℤ, zero, suc, ◌+◌, ◌<◌, Bool, true, false, List, [], ◌∷◌, length, drop, map, Option, Some, None, refl, sym, ap, ◌∙◌, slice_get, cond}
+use Rattle.std.proofs.Common.{◌≡◌, ℕ, ℤ, zero, suc, ◌+◌, ◌<◌, Bool, true, false, List, [], ◌∷◌, length, drop, map, Option, Some, None, refl, sym, ap, ◌∙◌, add-one, slice_get, cond}
 use Rattle.std.proofs.lemmas.Option.{slice_get-map}
 use denote.Enum.Bare.{sameb}
 use Rattle.cfix_base.specs.declared.Spot.{Spot}
@@ -32,6 +32,16 @@ pub spot-mark : (end : Spot) (ts : List lex.Token) (at : ℕ) (m : Mark) → sli
 spot-mark end [] at m e = absurd cc
 spot-mark end (t ∷ ts) zero m e = let h : mark_of t ≡ m = cc in ap (λ (x : Mark). x.spot) (sym h)
 spot-mark end (t ∷ ts) (suc at) m e = spot-mark end ts at m e
+
+pub next-mark : (ts : List lex.Token) (at : ℕ) (m : Mark) → slice_get (marked ts) at ≡ Some m
+    → (t : Token) × (drop at (map seen ts) ≡ t ∷ drop (at + 1) (map seen ts)) × (look_of t.kind ≡ m.look) × (t.spot ≡ m.spot)
+next-mark ts at m e = rw (add-one at) (by ts at e)
+  where
+    by : (ts : List lex.Token) (at : ℕ) → slice_get (marked ts) at ≡ Some m
+        → (t : Token) × (drop at (map seen ts) ≡ t ∷ drop (suc at) (map seen ts)) × (look_of t.kind ≡ m.look) × (t.spot ≡ m.spot)
+    by [] at e = absurd cc
+    by (t ∷ ts) zero e = let h : mark_of t ≡ m = cc in (seen t, refl, ap (λ (x : Mark). x.look) h, ap (λ (x : Mark). x.spot) h)
+    by (t ∷ ts) (suc at) e = by ts at e
 
 -- ---- the token at a place
 

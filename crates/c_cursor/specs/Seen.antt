@@ -1,5 +1,5 @@
 -- The tokens of a text as the grammar speaks of them.
-use Rattle.std.specs.Prelude.{ℤ, List, [], ◌∷◌, Option, Some, None}
+use Rattle.std.specs.Prelude.{◌≡◌, ℕ, ℤ, drop, List, [], ◌∷◌, Option, Some, None}
 use Rattle.cfix_base.specs.declared.Spot.{Spot}
 use Rattle.c_lex.specs.declared.token.Kind.{Kind}
 use Rattle.c_lex.specs.declared.token.Kind.TheVariants as k
@@ -53,3 +53,8 @@ number_at (t ∷ more) = number_in t.kind
 abbrev pub spot_at : Spot → List Token → Spot
 spot_at end [] = end
 spot_at end (t ∷ more) = t.spot
+
+-- The next token is this, stands at this place, and has this place behind it; or there is none.
+abbrev pub Next : List Token → ℕ → Option (Look × Spot × ℕ) → Type 0
+Next ts at None = drop at ts ≡ []
+Next ts at (Some x) = (t : Token) × (drop at ts ≡ t ∷ drop x.2 ts) × (look_of t.kind ≡ x.0) × (t.spot ≡ x.1)

@@ -2,7 +2,7 @@ ghost use Rattle.std.specs.Prelude.{◌≡◌, ◌≤◌, ◌<◌, ◌+◌, ◌+
 ghost use Rattle.c_grammar.specs.Reader.{begins, size};
 ghost use Rattle.c_grammar.specs.Read.{is_word, is_sign, is_name, is_number, read_word, read_sign, read_ident, read_numeral, read_text};
 ghost use Rattle.c_raw.specs.Tokens.{ident_view, numeral_view, text_view};
-ghost use Rattle.c_cursor.specs.Seen.{seen, look_at, number_at, spot_at};
+ghost use Rattle.c_cursor.specs.Seen.{seen, look_at, number_at, spot_at, Next};
 ghost use Rattle.c_cursor.specs.Marks.{marked};
 ghost use Rattle.c_cursor.specs.Gives.{Gives};
 
@@ -67,6 +67,17 @@ impl<'a> Cursor<'a> {
         } else {
             None
         }
+    }
+
+    /// What the token at this place is, where it stands, and the place behind it.
+    pub fn next(&self, at: usize) -> Option<(Look, Spot, usize)>
+        ensures { Next self.now.tokens at result }
+    {
+        if at >= self.marks.len() {
+            return None;
+        }
+        let mark = self.marks.at(at);
+        Some((mark.look, mark.spot, at + 1))
     }
 
     /// Where the token at this place stands, or where the text ends.
