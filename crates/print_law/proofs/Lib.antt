@@ -1,0 +1,12 @@
+pub mod Plain
+pub mod Items
+pub mod Expressions
+pub mod Texts
+pub mod Apart
+pub mod Calls
+pub mod Operations
+pub mod Acts
+pub mod Simples
+pub mod Lines
+pub mod Statements
+pub mod StatementLines

@@ -1,0 +1,2 @@
+//! The law of the canonical text.
+#![tactic(auto)]
