@@ -10,3 +10,5 @@ pub mod Simples
 pub mod Lines
 pub mod Statements
 pub mod StatementLines
+pub mod Parts
+pub mod Files

@@ -330,7 +330,7 @@ mutual
 ended-fits : (items : List Item) → Fits items → fits (items ++ Is (IsSign s.Semicolon) ∷ []) None ≡ true
 ended-fits items h = fits-then items (Is (IsSign s.Semicolon) ∷ []) None h refl refl
 
-ops-fit : (ops : List Op) → all_fit (ops_lines ops) ≡ true
+pub ops-fit : (ops : List Op) → all_fit (ops_lines ops) ≡ true
 ops-fit [] = refl
 ops-fit (op ∷ more) = ops-fit more
 
