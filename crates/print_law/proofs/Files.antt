@@ -42,11 +42,11 @@ use Rattle.print_law.proofs.Parts.{line_spots, lines_text, spots_of, Part, Empty
 
 -- includes and defines
 
-abbrev quiet : Kind → Bool
+abbrev pub quiet : Kind → Bool
 quiet k = eqb (count_by is_line_feed (kind_text k)) 0
 
 -- no token of the line has a line feed
-abbrev all_quiet : Line → Bool
+abbrev pub all_quiet : Line → Bool
 all_quiet [] = true
 all_quiet (Gap ∷ line) = all_quiet line
 all_quiet (Is k ∷ line) = quiet k && all_quiet line
@@ -111,14 +111,14 @@ directive line tree told fit quiet good at front = record {
 }
 
 -- a line of the header
-abbrev include_line : List ℕ → Line
+abbrev pub include_line : List ℕ → Line
 include_line name =
     Is (IsSign s.Hash) ∷ Is (IsName (codes "include")) ∷ Gap ∷ Is (IsSign s.Less) ∷ Is (IsName name) ∷ Is (IsSign s.Dot) ∷ Is (IsName (codes "h")) ∷ Is (IsSign s.Greater) ∷ []
 
-abbrev token_at : Kind → List Spot → Token
+abbrev pub token_at : Kind → List Spot → Token
 token_at k spots = record { kind = k; spot = here spots }
 
-abbrev include_tree : List ℕ → List Spot → f.Top
+abbrev pub include_tree : List ℕ → List Spot → f.Top
 include_tree name spots =
     let inner = later (later (later spots)) in
     f.Include (here spots) (here (later spots))
@@ -128,10 +128,10 @@ include_tree name spots =
 include-law : (name : List ℕ) → all_quiet (include_line name) ≡ true → Law (include_line name ∷ []) (include_line name) (include_tree name)
 include-law name q = directive (include_line name) (include_tree name) (λ spots. refl) refl q (λ spots h. both _ _ refl h) (λ spots. refl) (λ before rest. refl)
 
-abbrev own_line : Line
+abbrev pub own_line : Line
 own_line = Is (IsSign s.Hash) ∷ Is (IsName (codes "include")) ∷ Gap ∷ Is (IsQuoted (codes "cfix.h")) ∷ []
 
-abbrev own_tree : List Spot → f.Top
+abbrev pub own_tree : List Spot → f.Top
 own_tree spots = f.Include (here spots) (here (later spots)) (f.Quoted (record { bytes = codes "cfix.h"; spot = here (later (later spots)) }))
 
 own-law : Law (own_line ∷ []) own_line own_tree
@@ -140,15 +140,15 @@ own-law = directive own_line own_tree (λ spots. refl) refl refl (λ spots h. bo
 abbrev pub start_name : ℕ → List ℕ
 start_name n = codes "CFIX_START_" ++ decimal n
 
-abbrev start_line : ℕ → Line
+abbrev pub start_line : ℕ → Line
 start_line n = Is (IsSign s.Hash) ∷ Is (IsName (codes "define")) ∷ Gap ∷ Is (IsName (start_name n)) ∷ Gap ∷ Is (IsNumber (pos 1)) ∷ []
 
-abbrev start_tree : ℕ → List Spot → f.Top
+abbrev pub start_tree : ℕ → List Spot → f.Top
 start_tree n spots =
     f.Define (here spots) (here (later spots)) (ident_at (start_name n) (later (later spots))) (f.Plainly (record { value = pos 1; spot = here (later (later (later spots))) }))
 
 -- a number is written without a line feed
-abbrev IsQuietNumber : ℕ → Type 0
+abbrev pub IsQuietNumber : ℕ → Type 0
 IsQuietNumber n = count_by is_line_feed (decimal n) ≡ 0
 
 start-quiet : (n : ℕ) → IsQuietNumber n → all_quiet (start_line n) ≡ true
@@ -177,26 +177,26 @@ plainly lines items tree told hold fit good none = record {
 
 -- global variables
 
-abbrev number_of : ℕ → List Spot → Numeral
+abbrev pub number_of : ℕ → List Spot → Numeral
 number_of n spots = record { value = pos n; spot = here spots }
 
-abbrev initial_items : ℤ → Line
+abbrev pub initial_items : ℤ → Line
 initial_items (pos n) = Is (IsNumber (pos n)) ∷ []
 initial_items (negsuc n) = Is (IsSign s.Minus) ∷ Is (IsNumber (pos (suc n))) ∷ []
 
-abbrev initial_minus : ℤ → List Spot → Option Spot
+abbrev pub initial_minus : ℤ → List Spot → Option Spot
 initial_minus (pos n) spots = None
 initial_minus (negsuc n) spots = Some (here spots)
 
-abbrev initial_size : ℤ → List Spot → Numeral
+abbrev pub initial_size : ℤ → List Spot → Numeral
 initial_size (pos n) spots = number_of n spots
 initial_size (negsuc n) spots = number_of (suc n) (later spots)
 
-abbrev length_line : Word → List ℕ → ℕ → Line
+abbrev pub length_line : Word → List ℕ → ℕ → Line
 length_line x name n =
     Is (IsWord x) ∷ Gap ∷ Is (IsName name) ∷ Is (IsSign s.OpenBracket) ∷ Is (IsNumber (pos n)) ∷ Is (IsSign s.CloseBracket) ∷ Is (IsSign s.Semicolon) ∷ []
 
-abbrev global_line : List ℕ → GlobalKind → Line
+abbrev pub global_line : List ℕ → GlobalKind → Line
 global_line name (kind.Int initial) =
     Is (IsWord w.Int) ∷ Gap ∷ Is (IsName name) ∷ Gap ∷ Is (IsSign s.Assign) ∷ Gap ∷ (initial_items initial ++ Is (IsSign s.Semicolon) ∷ [])
 global_line name (kind.IntArray n) = length_line w.Int name n
@@ -205,7 +205,7 @@ global_line name (kind.ThreadArray n) = length_line w.Thread name n
 global_line name kind.Mutex =
     Is (IsWord w.Mutex) ∷ Gap ∷ Is (IsName name) ∷ Gap ∷ Is (IsSign s.Assign) ∷ Gap ∷ Is (IsWord w.MutexInitializer) ∷ Is (IsSign s.Semicolon) ∷ []
 
-abbrev global_tree : List ℕ → GlobalKind → List Spot → f.Top
+abbrev pub global_tree : List ℕ → GlobalKind → List Spot → f.Top
 global_tree name (kind.Int initial) spots =
     let behind = later (later (later spots)) in
     f.Variables [] (l.GlobalInts (here spots) (l.SetGlobal (ident_at name (later spots)) (here (later (later spots))) (initial_minus initial behind) (l.Count (initial_size initial behind))) [])
@@ -231,26 +231,26 @@ global-law name kind.Mutex = plainly _ _ _ (λ spots. refl) refl refl (λ spots.
 
 -- heads
 
-abbrev more_params_items : List (List ℕ) → List Item
+abbrev pub more_params_items : List (List ℕ) → List Item
 more_params_items [] = []
 more_params_items (p ∷ more) = Is (IsSign s.Comma) ∷ Gap ∷ Is (IsWord w.Int) ∷ Gap ∷ Is (IsName p) ∷ more_params_items more
 
-abbrev params_items : List (List ℕ) → List Item
+abbrev pub params_items : List (List ℕ) → List Item
 params_items [] = Is (IsWord w.Void) ∷ []
 params_items (p ∷ more) = Is (IsWord w.Int) ∷ Gap ∷ Is (IsName p) ∷ more_params_items more
 
-abbrev param_at : List ℕ → List Spot → f.Param
+abbrev pub param_at : List ℕ → List Spot → f.Param
 param_at p spots = f.ParamOf (here spots) (Some (ident_at p (later spots)))
 
-abbrev more_params_tree : List (List ℕ) → List Spot → List (Spot × f.Param)
+abbrev pub more_params_tree : List (List ℕ) → List Spot → List (Spot × f.Param)
 more_params_tree [] spots = []
 more_params_tree (p ∷ more) spots = (here spots, param_at p (later spots)) ∷ more_params_tree more (later (later (later spots)))
 
-abbrev params_tree : List (List ℕ) → List Spot → f.Params
+abbrev pub params_tree : List (List ℕ) → List Spot → f.Params
 params_tree [] spots = f.VoidParams (here spots)
 params_tree (p ∷ more) spots = f.SomeParams (param_at p spots) (more_params_tree more (later (later spots)))
 
-abbrev more_params_marks : List (Spot × f.Param) → List Mark
+abbrev pub more_params_marks : List (Spot × f.Param) → List Mark
 more_params_marks = each (λ x. (sign s.Comma x.0, 0) ∷ f.param_marks x.1)
 
 more-params-told : (ps : List (List ℕ)) (spots : List Spot) → tokens (more_params_marks (more_params_tree ps spots)) ≡ spotted spots (more_params_items ps)
@@ -262,7 +262,7 @@ params-told : (ps : List (List ℕ)) (spots : List Spot) → tokens (f.params_ma
 params-told [] spots = refl
 params-told (p ∷ more) spots = ap (λ z. word w.Int (here spots) ∷ ident (ident_at p (later spots)) ∷ z) (more-params-told more (later (later spots)))
 
-abbrev plain_head_items : Word → List ℕ → List (List ℕ) → List Item
+abbrev pub plain_head_items : Word → List ℕ → List (List ℕ) → List Item
 plain_head_items x name params = Is (IsWord x) ∷ Gap ∷ Is (IsName name) ∷ Is (IsSign s.OpenParen) ∷ (params_items params ++ Is (IsSign s.CloseParen) ∷ [])
 
 abbrev pub head_items : FnKind → List ℕ → List (List ℕ) → List Item
@@ -272,7 +272,7 @@ head_items gives.Thread name params =
     Is (IsWord w.Void) ∷ Gap ∷ Is (IsSign s.Star) ∷ Is (IsName name) ∷ Is (IsSign s.OpenParen) ∷ Is (IsWord w.Void) ∷ Gap ∷ Is (IsSign s.Star)
     ∷ Is (IsName (name_at params 0)) ∷ Is (IsSign s.CloseParen) ∷ []
 
-abbrev plain_head_tree : f.Return → List ℕ → List (List ℕ) → List Spot → f.Head
+abbrev pub plain_head_tree : f.Return → List ℕ → List (List ℕ) → List Spot → f.Head
 plain_head_tree x name params spots =
     let inner = later (later (later spots)) in
     f.PlainHead None x (here spots) (ident_at name (later spots)) (here (later (later spots))) (params_tree params inner) (here (after inner (params_items params)))
@@ -319,10 +319,10 @@ head-fits gives.Thread name params next h = closed-paren next h
 
 -- prototypes
 
-abbrev prototype_line : Function → Line
+abbrev pub prototype_line : Function → Line
 prototype_line fn = head_items fn.kind fn.name fn.params ++ Is (IsSign s.Semicolon) ∷ []
 
-abbrev prototype_tree : Function → List Spot → f.Top
+abbrev pub prototype_tree : Function → List Spot → f.Top
 prototype_tree fn spots = f.Prototype (head_tree fn.kind fn.name fn.params spots) (here (after spots (head_items fn.kind fn.name fn.params)))
 
 prototype-law : (fn : Function) → Law (prototype_line fn ∷ []) (prototype_line fn) (prototype_tree fn)
@@ -336,16 +336,16 @@ prototype-law fn =
 
 -- functions
 
-abbrev body_lines : Names → Function → List Line
+abbrev pub body_lines : Names → Function → List Line
 body_lines names fn = ops_lines fn.start ++ stmts_lines names (plain_body fn.body)
 
-abbrev function_lines : Names → Function → List Line
+abbrev pub function_lines : Names → Function → List Line
 function_lines names fn = braced (head_items fn.kind fn.name fn.params ++ Gap ∷ []) (body_lines names fn)
 
-abbrev body_items : Names → Function → List Item
+abbrev pub body_items : Names → Function → List Item
 body_items names fn = Gap ∷ Is (IsSign s.OpenBrace) ∷ (ops_items fn.start ++ (stmts_items names (plain_body fn.body) ++ Is (IsSign s.CloseBrace) ∷ []))
 
-abbrev function_items : Names → Function → List Item
+abbrev pub function_items : Names → Function → List Item
 function_items names fn = head_items fn.kind fn.name fn.params ++ body_items names fn
 
 abbrev pub function_tree : Names → Function → List Spot → f.Top
@@ -404,7 +404,7 @@ abbrev pub global_parts : List Global → List Part
 global_parts [] = []
 global_parts (g ∷ more) = One (global_line g.name g.kind ∷ []) (global_line g.name g.kind) (global_tree g.name g.kind) ∷ global_parts more
 
-abbrev prototype_by : Bool → Function → List Part
+abbrev pub prototype_by : Bool → Function → List Part
 prototype_by true fn = []
 prototype_by false fn = One (prototype_line fn ∷ []) (prototype_line fn) (prototype_tree fn) ∷ []
 
@@ -412,7 +412,7 @@ abbrev pub prototype_parts : List Function → List Part
 prototype_parts [] = []
 prototype_parts (fn ∷ more) = prototype_by (bytes_eq fn.name (codes "main")) fn ++ prototype_parts more
 
-abbrev function_part : Tree → Function → Part
+abbrev pub function_part : Tree → Function → Part
 function_part tree fn = One (function_lines (names_in tree fn) fn) (function_items (names_in tree fn) fn) (function_tree (names_in tree fn) fn)
 
 -- functions with an empty line between each two
@@ -432,7 +432,7 @@ tree_parts tree =
 
 -- all of them keep the laws
 
-abbrev AreQuiet : List OrderId → Type 0
+abbrev pub AreQuiet : List OrderId → Type 0
 AreQuiet [] = Unit {0}
 AreQuiet (order ∷ more) = IsQuietNumber order.number × AreQuiet more
 

@@ -12,3 +12,7 @@ pub mod Statements
 pub mod StatementLines
 pub mod Parts
 pub mod Files
+pub mod Decimals
+pub mod Quotes
+pub mod FileText
+pub mod Lexing

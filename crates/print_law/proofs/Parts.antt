@@ -114,7 +114,7 @@ spots-append before (x ∷ xs) ys =
 
 -- as many spots as tokens
 
-beyond-line : (before : List ℕ) (line : Line) (rest : List Spot) → beyond (line_spots before line ++ rest) (kinds line) ≡ rest
+pub beyond-line : (before : List ℕ) (line : Line) (rest : List Spot) → beyond (line_spots before line ++ rest) (kinds line) ≡ rest
 beyond-line before [] rest = refl
 beyond-line before (Gap ∷ items) rest = beyond-line (before ++ 32 ∷ []) items rest
 beyond-line before (Is k ∷ items) rest = beyond-line (before ++ kind_text k) items rest
