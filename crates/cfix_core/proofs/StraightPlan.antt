@@ -9,7 +9,10 @@ use Rattle.c_prog.specs.declared.act.Act.{Act}
 use Rattle.c_prog.specs.declared.global.Global as global_module
 use Rattle.c_prog.specs.declared.tree.Tree.{Tree}
 use Rattle.c_prog.specs.Nodes.{tree_nodes}
-use Rattle.flow_graph.specs.Flow.{tree_edges}
+use Rattle.call_graph.specs.Calls.{IsRoot}
+use Rattle.call_graph.specs.Chains.{IsCovered}
+use Rattle.call_graph.specs.Sites.{calls_of}
+use Rattle.flow_graph.specs.Flow.{tree_edges, fn_id}
 use Rattle.flow_graph.specs.Paths.{entry}
 use Rattle.flow_graph.specs.Regions.{InRegion}
 use Rattle.plan_types.specs.declared.bound.Atom.{Atom}
@@ -17,9 +20,8 @@ use Rattle.plan_types.specs.declared.bound.Bound.TheVariants as bound
 use Rattle.plan_types.specs.declared.class.Class.{Class}
 use Rattle.plan_types.specs.Classes.{AreJoined, Guards, guard_of, IsClass, AreClasses}
 use Rattle.plan_types.specs.Sets.{IsIn}
-use Rattle.first_form.specs.Straight.{in_region, with_ops, main_with, bare, guarded}
+use Rattle.first_form.specs.Straight.{in_region, with_ops, bare, guarded}
 use Rattle.first_form.proofs.Acts.{nodes-straight}
-use Rattle.cfix_core.specs.Calls.{IsRoot, IsMain, IsCovered}
 use Rattle.cfix_core.specs.Bounds.{IsSetOf, InGuard}
 use Rattle.cfix_core.specs.Operations.{ClassPlan}
 use Rattle.cfix_core.specs.Patched.{IsClassPlan, IsPlan, IsPatched}
@@ -118,19 +120,19 @@ module _ (globals : List global_module.Global) (acts : List Act) (here there : �
     );
   }
 
-  main_is : IsMain tree 0
-  main_is = record { function = main_with [] (with_ops (λ n. []) 0 acts); is_function = refl; is_main = refl }
+  main_is : IsIn (calls_of tree).mains 0
+  main_is = refl
 
-  uncovered : IsCovered tree nodes 0 → ⊥
+  uncovered : IsCovered (calls_of tree) nodes (fn_id 0) → ⊥
   uncovered covered =
-      let w = covered [] (record { root = 0; is_root = inl main_is; leads = refl }) in omega (arith, w.2)
+      let w = covered [] (record { root = fn_id 0; is_root = inl main_is; leads = refl }) in omega (arith, w.2)
 
   class_plan : IsClassPlan tree (record { class = record { nodes = nodes; reports = 0 ∷ [] }; covered = false ∷ [] })
   class_plan = record {
     sized = refl;
     has = λ f less. let e = only_zero f less in (
       (λ h. absurd (false≢true (subst (λ g. IsIn (false ∷ []) g) e h))),
-      (λ h. absurd (uncovered (subst (λ g. IsCovered tree nodes g) e h))),
+      (λ h. absurd (uncovered (subst (λ g. IsCovered (calls_of tree) nodes (fn_id g)) e h))),
     );
   }
 
@@ -146,7 +148,7 @@ module _ (globals : List global_module.Global) (acts : List Act) (here there : �
     roots = record {
       sized = refl;
       has = λ f less. let e = only_zero f less in (
-        (λ h. subst (λ g. IsRoot tree g) (sym e) (inl main_is)),
+        (λ h. subst (λ g. IsRoot (calls_of tree) (fn_id g)) (sym e) (inl main_is)),
         (λ h. subst (λ g. IsIn (true ∷ []) g) (sym e) refl),
       );
     };

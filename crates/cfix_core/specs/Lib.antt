@@ -1,4 +1,3 @@
-pub mod Calls
 pub mod Bounds
 pub mod Orders
 pub mod Operations
@@ -8,5 +7,6 @@ pub mod PlainSites
 pub mod OneReport
 pub mod Repair
 pub mod Words
+pub mod NamedFiles
 pub mod Stops
 pub mod Answers

@@ -15,13 +15,16 @@ use Rattle.c_prog.specs.declared.stmt.Stmt.TheFolds.{fold-Stmt}
 use Rattle.c_prog.specs.declared.function.Function.{Function}
 use Rattle.c_prog.specs.declared.tree.Tree.{Tree}
 use Rattle.c_prog.specs.Nodes.{total, step_nodes, tree_nodes}
+use Rattle.call_graph.specs.Calls.{IsRoot}
+use Rattle.call_graph.specs.Chains.{IsCovered}
+use Rattle.call_graph.specs.Sites.{calls_of}
 use Rattle.flow_graph.specs.Flow.{Edge, Next, node, fn_id, function_edges, same_place}
 use Rattle.flow_graph.specs.Paths.{entry}
 use Rattle.plan_types.specs.declared.bound.Bound.{Bound}
 use Rattle.plan_types.specs.declared.bound.Bound.TheVariants as bound
 use Rattle.plan_types.specs.declared.order_plan.OrderPlan.{OrderPlan}
 use Rattle.plan_types.specs.Classes.{AreClasses}
-use Rattle.cfix_core.specs.Calls.{IsRoot, IsMain, IsCovered}
+use Rattle.plan_types.specs.Sets.{IsIn}
 use Rattle.cfix_core.specs.Bounds.{IsSetOf, atoms_of, AreGuards}
 use Rattle.cfix_core.specs.Orders.{Reaches, MayCome}
 use Rattle.cfix_core.specs.Operations.{ClassPlan, Plan, order, within, edge_ops}
@@ -119,7 +122,8 @@ with_plan tree plan = record {
 
 -- the functions covered for a class
 abbrev pub IsClassPlan : Tree → ClassPlan → Type 0
-IsClassPlan tree plan = IsSetOf (length tree.functions) plan.covered (IsCovered tree plan.class.nodes)
+IsClassPlan tree plan =
+    IsSetOf (length tree.functions) plan.covered (λ f. IsCovered (calls_of tree) plan.class.nodes (fn_id f))
 
 -- the plan of the order report with this number; `entry` is the first node of main
 pub record IsOrderPlan (tree : Tree) (entry : Next) (j : ℕ) (first : Bool) (a b : AccessId) (plan : OrderPlan) : Type 0 where
@@ -147,12 +151,12 @@ pub record IsPlan (tree : Tree) (entry : Next) (bounds : List Bound) (plan : Pla
   pub classes : AreClasses guards (map (λ class. class.class) plan.classes)
   pub covered : All (IsClassPlan tree) plan.classes
   pub orders : AreOrderPlans tree entry 0 bounds plan.orders
-  pub roots : IsSetOf (length tree.functions) plan.roots (IsRoot tree)
+  pub roots : IsSetOf (length tree.functions) plan.roots (λ f. IsRoot (calls_of tree) (fn_id f))
 
 -- q is the program patched for these bound reports
 pub record IsPatched (tree : Tree) (bounds : List Bound) (q : Tree) : Type 0 where
   pub main : ℕ
-  pub is_main : IsMain tree main
+  pub is_main : IsIn (calls_of tree).mains main
   pub plan : Plan
   pub is_plan : IsPlan tree (entry tree main) bounds plan
   pub is_q : q ≡ with_plan tree plan

@@ -1,7 +1,8 @@
 -- Why a command was not done: the status and the line to the notes of each reason.
 use Rattle.std.specs.Prelude.{ℕ, List, [], ◌∷◌, ◌++◌, codes, Option, Some, None}
 use Rattle.std.specs.Fmt.{decimal}
-use Rattle.cfix_core.specs.Words.{Names}
+use Rattle.cfix_core.specs.Words.{Asked}
+use Rattle.cfix_core.specs.NamedFiles.{file_name, limit_of}
 use Rattle.cfix_core.specs.declared.patch.Role.{Role}
 use Rattle.cfix_core.specs.declared.patch.Role.TheVariants.{P, C, R}
 use Rattle.cfix_core.specs.declared.patch.Refusal.{Refusal}
@@ -9,18 +10,16 @@ use Rattle.cfix_core.specs.declared.patch.Refusal.TheVariants as refused
 use Rattle.cfix_core.specs.declared.patch.Failure.{Failure}
 use Rattle.cfix_core.specs.declared.patch.Failure.TheVariants as failure
 use Rattle.cfix_core.specs.declared.stop.NamedFile.{NamedFile}
-use Rattle.cfix_core.specs.declared.stop.NamedFile.TheVariants as named
 use Rattle.cfix_core.specs.declared.stop.Stop.{Stop}
 use Rattle.cfix_core.specs.declared.stop.Stop.TheVariants.{NoMemory, CannotRead, TooLong, CannotWrite, Refused}
 
--- a file's name among the words, and the greatest length of it in bytes
-abbrev pub name_of : NamedFile → Names → List ℕ
-name_of named.Program names = names.source
-name_of named.Reports names = names.reports
+abbrev pub or_empty : Option (List ℕ) → List ℕ
+or_empty None = []
+or_empty (Some name) = name
 
-abbrev pub limit_of : NamedFile → ℕ
-limit_of named.Program = 4194304
-limit_of named.Reports = 1048576
+-- the word that names a file
+abbrev pub word_of : NamedFile → Asked → List ℕ
+word_of file asked = or_empty (file_name file asked)
 
 abbrev pub stop_of : Failure → Stop
 stop_of failure.NoMemory = NoMemory
@@ -84,9 +83,9 @@ refusal_line refused.Reports = ended (codes "cfix: reports: outside the first fo
 refusal_line (refused.NoSite role) = site_line role
 refusal_line refused.OtherMode = ended (codes "cfix: reports: outside the first form")
 
-abbrev pub line_of : Names → Stop → List ℕ
-line_of names NoMemory = ended (codes "cfix: no memory")
-line_of names (CannotRead file) = read_line (name_of file names)
-line_of names (TooLong file) = long_line (name_of file names) (limit_of file)
-line_of names CannotWrite = ended (codes "cfix: cannot write")
-line_of names (Refused refusal) = refusal_line refusal
+abbrev pub line_of : Asked → Stop → List ℕ
+line_of asked NoMemory = ended (codes "cfix: no memory")
+line_of asked (CannotRead file) = read_line (word_of file asked)
+line_of asked (TooLong file) = long_line (word_of file asked) (limit_of file)
+line_of asked CannotWrite = ended (codes "cfix: cannot write")
+line_of asked (Refused refusal) = refusal_line refusal

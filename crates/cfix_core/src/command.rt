@@ -1,15 +1,37 @@
-ghost use Rattle.std.specs.Prelude.{◌≡◌, ◌≤◌, List, ℕ, IfOk, OnOk, IfErr};
+ghost use Rattle.std.specs.Prelude.{◌≡◌, ◌≤◌, List, ℕ, Some, length, IfOk, OnOk, IfErr};
 ghost use Rattle.cfix_outside.specs.Shelves.{Gives};
-ghost use Rattle.cfix_core.specs.Words.{names_of};
-ghost use Rattle.cfix_core.specs.Stops.{name_of, limit_of};
-ghost use Rattle.cfix_core.specs.Answers.{DoneFor, Cause, ReadCause, Left, Untried};
+ghost use Rattle.cfix_core.specs.Words.{asked_of};
+ghost use Rattle.cfix_core.specs.NamedFiles.{file_name, limit_of, HasFile};
+ghost use Rattle.cfix_core.specs.Repair.{FailsBy};
+ghost use Rattle.cfix_core.specs.Answers.{Answered, RefusedIn, DoneFor, Cause, ReadCause, Left, Untried};
 
-use crate::patch::patched;
+use crate::patch::{Failure, patched};
 use crate::stop::{NamedFile, Stop, limit_of, name_of, stop_of};
 use crate::words::Request;
 use cfix_outside::{Shelf, ShelfFault, Sink, put_text};
 use std::alloc::Global;
 
+fn read_named<H: Shelf>(
+    alloc: Global,
+    name: &str,
+    file: NamedFile,
+    shelf: &mut H,
+) -> Result<Vec<u8>, Stop>
+    ensures kept { H.files shelf.new ≡ H.files shelf.old }
+    ensures later { (name : List ℕ) → H.faults shelf.old name ≤ H.faults shelf.new name }
+    ensures given { IfOk result (λ bytes. Gives (H.files shelf.old) name.now (limit_of file) bytes.items) }
+    ensures within { IfOk result (λ bytes. length bytes.items ≤ limit_of file) }
+    ensures cause { IfErr result (λ stop. ReadCause stop file (Some name.now) (H.files shelf.old) (H.faults shelf.old) (H.faults shelf.new)) }
+{
+    match shelf.read(alloc, name, limit_of(file)) {
+        Ok(bytes) => Ok(bytes),
+        Err(ShelfFault::Failed) => Err(Stop::CannotRead(file)),
+        Err(ShelfFault::TooLong(_)) => Err(Stop::TooLong(file)),
+        Err(ShelfFault::NoMemory) => Err(Stop::NoMemory),
+    }
+}
+
+/// The bytes of a file that the words name; a file that they do not name has none.
 fn read_file<H: Shelf>(
     alloc: Global,
     request: &Request<'_>,
@@ -18,32 +40,47 @@ fn read_file<H: Shelf>(
 ) -> Result<Vec<u8>, Stop>
     ensures kept { H.files shelf.new ≡ H.files shelf.old }
     ensures later { (name : List ℕ) → H.faults shelf.old name ≤ H.faults shelf.new name }
-    ensures given { IfOk result (λ bytes. Gives (H.files shelf.old) (name_of file (names_of request.now)) (limit_of file) bytes.items) }
-    ensures cause { IfErr result (λ stop. ReadCause stop file (names_of request.now) (H.files shelf.old) (H.faults shelf.old) (H.faults shelf.new)) }
+    ensures given { IfOk result (λ bytes. HasFile (H.files shelf.old) (asked_of request.now) file bytes.items) }
+    ensures within { IfOk result (λ bytes. length bytes.items ≤ limit_of file) }
+    ensures cause { IfErr result (λ stop. ReadCause stop file (file_name file (asked_of request.now)) (H.files shelf.old) (H.faults shelf.old) (H.faults shelf.new)) }
 {
-    match shelf.read(alloc, name_of(request, file), limit_of(file)) {
-        Ok(bytes) => Ok(bytes),
-        Err(ShelfFault::Failed) => Err(Stop::CannotRead(file)),
-        Err(ShelfFault::TooLong(_)) => Err(Stop::TooLong(file)),
-        Err(ShelfFault::NoMemory) => Err(Stop::NoMemory),
+    match name_of(request, file) {
+        Some(name) => read_named(alloc, name, file, shelf),
+        None => Ok(Vec::new(alloc)),
     }
 }
 
-/// Reads the two files, and puts the text of the patched program.
+/// The text that a command writes, of the bytes of its files.
+fn answer(
+    alloc: Global,
+    request: &Request<'_>,
+    program: &[u8],
+    reports: &[u8],
+) -> Result<Vec<u8>, Failure>
+    requires { length program.now ≤ 4194304 }
+    ensures done { IfOk result (λ text. Answered (asked_of request.now) (record { program = program.now; reports = reports.now }) text.items) }
+    ensures refused { IfErr result (FailsBy (λ refusal. RefusedIn (asked_of request.now) refusal (record { program = program.now; reports = reports.now }))) }
+{
+    match *request {
+        Request::Patch { .. } => patched(alloc, program, reports),
+    }
+}
+
+/// Reads the files of a command, and puts its text.
 pub(crate) fn work<H: Shelf, O: Sink>(
     alloc: Global,
     request: &Request<'_>,
     shelf: &mut H,
     out: &mut O,
 ) -> Result<(), Stop>
-    ensures done { OnOk result (DoneFor (names_of request.now) (H.files shelf.old) (O.taken out.old) (O.taken out.new)) }
-    ensures cause { IfErr result (λ stop. Cause stop (names_of request.now) (H.files shelf.old) (H.faults shelf.old) (H.faults shelf.new) (O.taken out.old) (O.taken out.new) (O.faults out.old) (O.faults out.new)) }
+    ensures done { OnOk result (DoneFor (asked_of request.now) (H.files shelf.old) (O.taken out.old) (O.taken out.new)) }
+    ensures cause { IfErr result (λ stop. Cause stop (asked_of request.now) (H.files shelf.old) (H.faults shelf.old) (H.faults shelf.new) (O.taken out.old) (O.taken out.new) (O.faults out.old) (O.faults out.new)) }
     ensures left { IfErr result (λ stop. Left stop (O.taken out.old) (O.taken out.new)) }
     ensures untried { IfErr result (λ stop. Untried stop (O.faults out.old) (O.faults out.new)) }
 {
-    let source = read_file(alloc, request, NamedFile::Program, shelf)?;
+    let program = read_file(alloc, request, NamedFile::Program, shelf)?;
     let reports = read_file(alloc, request, NamedFile::Reports, shelf)?;
-    let text = match patched(alloc, &source, &reports) {
+    let text = match answer(alloc, request, &program, &reports) {
         Ok(text) => text,
         Err(failure) => return Err(stop_of(failure)),
     };

@@ -1,12 +1,12 @@
 ghost use Rattle.std.specs.Prelude.{◌≡◌, ◌≤◌, ◌++◌, OnOk, OnErr};
 ghost use Rattle.cfix_outside.specs.Faults.{Rose};
 ghost use Rattle.cfix_outside.specs.Sinks.{Gained, GainedFront};
-ghost use Rattle.cfix_core.specs.Words.{names_of};
+ghost use Rattle.cfix_core.specs.Words.{asked_of};
 ghost use Rattle.cfix_core.specs.Stops.{limit_end, long_line, site_line, report_shape_line, shape_line, refusal_line, line_of, words_line};
 ghost use Rattle.cfix_core.specs.Answers.{Noted};
 
 use crate::patch::{Refusal, Role};
-use crate::stop::{Stop, limit_of, name_of};
+use crate::stop::{Stop, limit_of, word_of};
 use crate::words::Request;
 use cfix_outside::{Sink, SinkFault};
 use itoa::Buffer;
@@ -105,8 +105,8 @@ fn put_refusal<N: Sink>(note: &mut N, refusal: Refusal) -> Result<(), SinkFault>
 }
 
 fn put_line<N: Sink>(note: &mut N, request: &Request<'_>, stop: Stop) -> Result<(), SinkFault>
-    ensures taken { OnOk result (Gained (N.taken note.old) (N.taken note.new) (line_of (names_of request.now) stop)) }
-    ensures front { OnErr result (GainedFront (N.taken note.old) (N.taken note.new) (line_of (names_of request.now) stop)) }
+    ensures taken { OnOk result (Gained (N.taken note.old) (N.taken note.new) (line_of (asked_of request.now) stop)) }
+    ensures front { OnErr result (GainedFront (N.taken note.old) (N.taken note.new) (line_of (asked_of request.now) stop)) }
     ensures cause { OnErr result (Rose (N.faults note.old) (N.faults note.new)) }
 {
     match stop {
@@ -114,10 +114,10 @@ fn put_line<N: Sink>(note: &mut N, request: &Request<'_>, stop: Stop) -> Result<
         Stop::CannotRead(file) => put_three(
             note,
             b"cfix: cannot read ",
-            name_of(request, file),
+            word_of(request, file),
             b"\n",
         ),
-        Stop::TooLong(file) => put_long_line(note, name_of(request, file), limit_of(file)),
+        Stop::TooLong(file) => put_long_line(note, word_of(request, file), limit_of(file)),
         Stop::CannotWrite => note.put(b"cfix: cannot write\n"),
         Stop::Refused(refusal) => put_refusal(note, refusal),
     }
@@ -125,7 +125,7 @@ fn put_line<N: Sink>(note: &mut N, request: &Request<'_>, stop: Stop) -> Result<
 
 /// Puts the line of a stop. It takes no memory; a put that fails ends the line.
 pub(crate) fn tell<N: Sink>(note: &mut N, request: &Request<'_>, stop: Stop)
-    ensures { Noted (line_of (names_of request.now) stop) (N.taken note.old) (N.taken note.new) (N.faults note.old) (N.faults note.new) }
+    ensures { Noted (line_of (asked_of request.now) stop) (N.taken note.old) (N.taken note.new) (N.faults note.old) (N.faults note.new) }
 {
     match put_line(note, request, stop) {
         Ok(()) => {}

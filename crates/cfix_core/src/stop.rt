@@ -1,6 +1,7 @@
-ghost use Rattle.std.specs.Prelude.{◌≡◌};
-ghost use Rattle.cfix_core.specs.Words.{names_of};
-ghost use Rattle.cfix_core.specs.Stops.{name_of, limit_of, stop_of, refusal_status, status_of};
+ghost use Rattle.std.specs.Prelude.{◌≡◌, option_map};
+ghost use Rattle.cfix_core.specs.Words.{asked_of};
+ghost use Rattle.cfix_core.specs.NamedFiles.{file_name, limit_of};
+ghost use Rattle.cfix_core.specs.Stops.{word_of, stop_of, refusal_status, status_of};
 
 use crate::patch::{Failure, Refusal};
 use crate::words::Request;
@@ -27,12 +28,25 @@ pub enum Stop {
     Refused(Refusal),
 }
 
-pub(crate) fn name_of<'w>(request: &Request<'w>, file: NamedFile) -> &'w str
-    ensures { result.now ≡ name_of file (names_of request.now) }
+/// The name of a file, if the words name it.
+pub(crate) fn name_of<'w>(request: &Request<'w>, file: NamedFile) -> Option<&'w str>
+    ensures { option_map (λ name. name.now) result ≡ file_name file (asked_of request.now) }
 {
-    match file {
-        NamedFile::Program => request.source,
-        NamedFile::Reports => request.reports,
+    match *request {
+        Request::Patch { source, reports } => match file {
+            NamedFile::Program => Some(source),
+            NamedFile::Reports => Some(reports),
+        },
+    }
+}
+
+/// The word that names a file.
+pub(crate) fn word_of<'w>(request: &Request<'w>, file: NamedFile) -> &'w str
+    ensures { result.now ≡ word_of file (asked_of request.now) }
+{
+    match name_of(request, file) {
+        Some(name) => name,
+        None => "",
     }
 }
 

@@ -1,12 +1,12 @@
 ghost use Rattle.std.specs.Prelude.{◌≡◌, option_map, map, string_bytes};
 ghost use Rattle.std.specs.List.{list_any};
-ghost use Rattle.cfix_core.specs.Words.{texts, names_of, is_option, patch_row, request_of};
+ghost use Rattle.cfix_core.specs.Words.{texts, asked_of, is_option, patch_row, request_of};
 
-/// What `patch PROG REPORTS` asks for: the names of the program's file and of the reports' file.
+/// What words ask for: a command and the names of its files.
 #[derive(Clone, Copy, Debug, PartialEq, Eq)]
-pub struct Request<'w> {
-    pub source: &'w str,
-    pub reports: &'w str,
+pub enum Request<'w> {
+    /// `patch PROG REPORTS`
+    Patch { source: &'w str, reports: &'w str },
 }
 
 fn is_option(word: &str) -> bool
@@ -27,12 +27,12 @@ fn has_option(words: &[String]) -> bool
 }
 
 fn patch_row(words: &[String]) -> Option<Request<'_>>
-    ensures { option_map names_of result ≡ patch_row (texts words.now) }
+    ensures { option_map asked_of result ≡ patch_row (texts words.now) }
 {
     match words {
         [command, source, reports] => {
             if command.as_str() == "patch" {
-                Some(Request {
+                Some(Request::Patch {
                     source: source.as_str(),
                     reports: reports.as_str(),
                 })
@@ -46,7 +46,7 @@ fn patch_row(words: &[String]) -> Option<Request<'_>>
 
 /// What the words behind the program's name ask for, if they are a command.
 pub fn request_of(words: &[String]) -> Option<Request<'_>>
-    ensures { option_map names_of result ≡ request_of (texts words.now) }
+    ensures { option_map asked_of result ≡ request_of (texts words.now) }
 {
     if has_option(words) {
         None

@@ -1,0 +1,60 @@
+-- The files that the words of a command name.
+use Rattle.std.specs.Prelude.{ℕ, ◌≡◌, List, [], Option, Some, None}
+use Rattle.cfix_outside.specs.Faults.{Rose}
+use Rattle.cfix_outside.specs.Shelves.{Files, Gives, Passes}
+use Rattle.cfix_core.specs.Words.{Asked, patch}
+use Rattle.cfix_core.specs.declared.stop.NamedFile.{NamedFile}
+use Rattle.cfix_core.specs.declared.stop.NamedFile.TheVariants as named
+
+-- a file's name among the words, if they name it
+abbrev pub file_name : NamedFile → Asked → Option (List ℕ)
+file_name named.Program (patch source reports) = Some source
+file_name named.Reports (patch source reports) = Some reports
+
+-- the greatest length of it in bytes
+abbrev pub limit_of : NamedFile → ℕ
+limit_of named.Program = 4194304
+limit_of named.Reports = 1048576
+
+-- the file of this name has these bytes, within the limit; a file that the words do not name has none
+abbrev pub Has : Option Files → ℕ → Option (List ℕ) → List ℕ → Type 0
+Has files limit None bytes = bytes ≡ []
+Has files limit (Some name) bytes = Gives files name limit bytes
+
+-- a file that the words name has these bytes
+abbrev pub HasFile : Option Files → Asked → NamedFile → List ℕ → Type 0
+HasFile files asked file bytes = Has files (limit_of file) (file_name file asked) bytes
+
+-- the bytes of the files
+pub record Contents : Type 0 where
+  pub program : List ℕ
+  pub reports : List ℕ
+
+pub record Holds (files : Option Files) (asked : Asked) (contents : Contents) : Type 0 where
+  pub program : HasFile files asked named.Program contents.program
+  pub reports : HasFile files asked named.Reports contents.reports
+
+-- the files that are read before this one were read
+abbrev pub Reached : Option Files → Asked → NamedFile → Type 0
+Reached files asked named.Program = Unit {0}
+Reached files asked named.Reports = (bytes : List ℕ) × HasFile files asked named.Program bytes
+
+-- the file of this name is longer than the limit
+abbrev pub IsLong : Option Files → ℕ → Option (List ℕ) → Type 0
+IsLong files limit None = ⊥
+IsLong files limit (Some name) = Passes files name limit
+
+-- this file is the first that is longer than its limit
+pub record LongFor (file : NamedFile) (asked : Asked) (files : Option Files) : Type 0 where
+  pub reached : Reached files asked file
+  pub passes : IsLong files (limit_of file) (file_name file asked)
+
+-- the count of faults of this name rose
+abbrev pub HasRisen : (List ℕ → ℕ) → (List ℕ → ℕ) → Option (List ℕ) → Type 0
+HasRisen before now None = ⊥
+HasRisen before now (Some name) = Rose (before name) (now name)
+
+-- the count of this file's name rose
+pub record UnreadFor (file : NamedFile) (asked : Asked) (files : Option Files) (before now : List ℕ → ℕ) : Type 0 where
+  pub reached : Reached files asked file
+  pub rose : HasRisen before now (file_name file asked)
