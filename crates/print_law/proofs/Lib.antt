@@ -16,3 +16,5 @@ pub mod Decimals
 pub mod Quotes
 pub mod FileText
 pub mod Lexing
+pub mod Meanings
+pub mod SpeltExpressions
