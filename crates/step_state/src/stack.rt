@@ -1,4 +1,4 @@
-ghost use Rattle.std.specs.Prelude.{◌≡◌, ◌∷◌, ◌<◌, [], OnErr, OnOk, length, reverse, take, MatchOption, Option, slice_get, Some, ◌≤◌, ◌-◌};
+ghost use Rattle.std.specs.Prelude.{◌≡◌, ◌∷◌, ◌++◌, ◌<◌, [], OnErr, OnOk, drop, length, reverse, take, MatchOption, Option, slice_get, Some, ◌≤◌, ◌-◌};
 ghost use Rattle.std.specs.Borrow.{sem};
 
 use cfix_base::NoMemory;
@@ -99,5 +99,65 @@ impl<T: Drop> Stack<T> {
     {
         let second = self.items.len() - 2;
         &mut self.items[second]
+    }
+}
+
+impl<T: Drop> Stack<T> {
+    /// Takes so many items off the top, or all where there are fewer. It takes no memory.
+    #[tactic(auto, using(crate::proofs::Tops::reverse_dropped))]
+    pub fn remove(&mut self, count: usize)
+        ensures { self.new ≡ drop count self.old }
+    {
+        let kept = self.items.len().saturating_sub(count);
+        self.items.truncate(kept);
+    }
+
+    /// Takes all items off. It takes no memory.
+    pub fn clear(&mut self)
+        ensures { self.new ≡ [] }
+    {
+        self.items.clear();
+    }
+
+    /// So many items from the top, or all where there are fewer, the lowest first.
+    #[tactic(auto, using(crate::proofs::Tops::last_taken))]
+    pub fn last(&self, count: usize) -> &[T]
+        ensures { result.now ≡ reverse (take count self.now) }
+    {
+        let first = self.items.len().saturating_sub(count);
+        &self.items.as_slice()[first..]
+    }
+}
+
+impl<T: Copy + Drop> Stack<T> {
+    /// Puts `items` on top, the first of them topmost. After an error the stack is as before.
+    #[tactic(auto, using(crate::proofs::Tops::drop_before, crate::proofs::Tops::drop_pushed))]
+    pub fn push_all(&mut self, items: &[T]) -> Result<(), NoMemory>
+        ensures pushed { OnOk result (self.new ≡ items.now ++ self.old) }
+        ensures unchanged { OnErr result (self.new ≡ self.old) }
+    {
+        let mut left = items.len();
+        while left > 0 {
+            left -= 1;
+            if self.push(items[left]).is_err() {
+                self.remove(items.len() - 1 - left);
+                return Err(NoMemory);
+            }
+        }
+        Ok(())
+    }
+
+    /// Puts `items`, the first of them topmost, and below them `last` in the place of the top.
+    /// After an error the stack is as before.
+    #[tactic(auto, using(crate::proofs::Tops::expanded))]
+    pub fn expand(&mut self, items: &[T], last: T) -> Result<(), NoMemory>
+        requires { 0 < length self.old }
+        ensures expanded { OnOk result (self.new ≡ items.now ++ last ∷ drop 1 self.old) }
+        ensures unchanged { OnErr result (self.new ≡ self.old) }
+    {
+        self.push_all(items)?;
+        let place = self.items.len() - 1 - items.len();
+        self.items[place] = last;
+        Ok(())
     }
 }

@@ -1,4 +1,4 @@
-ghost use Rattle.std.specs.Prelude.{◌≡◌, ◌∷◌, ◌++◌, ◌<◌, [], OnErr, OnOk, length, MatchOption, Option, slice_get, slice_set, Some};
+ghost use Rattle.std.specs.Prelude.{◌≡◌, ◌∷◌, ◌++◌, ◌-◌, ◌<◌, [], OnErr, OnOk, length, replicate, take, MatchOption, Option, slice_get, slice_set, Some};
 ghost use Rattle.std.specs.Borrow.{sem};
 
 use cfix_base::NoMemory;
@@ -85,5 +85,30 @@ impl<T: Drop> Table<T> {
         if number < self.items.len() {
             self.items[number] = item;
         }
+    }
+}
+
+impl<T: Drop> Table<T> {
+    /// Leaves out the items from this number on. It takes no memory.
+    pub fn truncate(&mut self, len: usize)
+        ensures { self.new ≡ take len self.old }
+    {
+        self.items.truncate(len);
+    }
+}
+
+impl<T: Copy + Drop> Table<T> {
+    /// Adds as many copies of `item` as it takes for the table to have `len` items. After an error
+    /// the table is as before.
+    #[tactic(auto, using(crate::proofs::Tops::replicate_none))]
+    pub fn fill_to(&mut self, len: usize, item: T) -> Result<(), NoMemory>
+        ensures filled { OnOk result (self.new ≡ self.old ++ replicate (len - length self.old) item) }
+        ensures unchanged { OnErr result (self.new ≡ self.old) }
+    {
+        if len <= self.items.len() {
+            return Ok(());
+        }
+        self.items.resize(len, item)?;
+        Ok(())
     }
 }
