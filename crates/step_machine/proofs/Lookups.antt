@@ -1,0 +1,43 @@
+-- Reading past the end of a list, writing back what was read, and lists that were filled up.
+use Rattle.std.proofs.Common.{◌≡◌, ℕ, zero, suc, ◌+◌, ◌-◌, ◌<◌, List, [], ◌∷◌, ◌++◌, length, get_or, set, take, drop, replicate, Option, Some, None, refl, ap, sym, ◌∙◌, arith}
+use Rattle.std.proofs.lemmas.List.{take_at}
+use Rattle.std.specs.Prelude.{slice_get, MatchOption}
+use Rattle.step_state.specs.declared.item.Item.{Item}
+use Rattle.step_state.specs.declared.frame.Frame.{Frame}
+use Rattle.step_state.specs.declared.thread.Thread.{Thread}
+use Rattle.step_state.specs.StackLends.{with_top}
+use Rattle.step_state.specs.Changes.{with_work, with_frames}
+use Rattle.step_machine.specs.Next.{popped_top}
+
+pub past_is : {X : Type 0} (xs : List X) (i : ℕ) (d : X) → slice_get xs i ≡ None → get_or xs i d ≡ d
+past_is [] i d h = refl
+past_is (x ∷ xs) zero d h = cc
+past_is (x ∷ xs) (suc i) d h = past_is xs i d h
+
+pub set_back : {X : Type 0} (xs : List X) (i : ℕ) (x : X) → slice_get xs i ≡ Some x → set xs i x ≡ xs
+set_back [] i x h = refl
+set_back (y ∷ xs) zero x h = let e : y ≡ x = cc in ap (λ z. z ∷ xs) (sym e)
+set_back (y ∷ xs) (suc i) x h = ap (λ ys. y ∷ ys) (set_back xs i x h)
+
+pub top_back : {X : Type 0} (xs : List X) (x : X) → slice_get xs 0 ≡ Some x → with_top xs x ≡ xs
+top_back [] x h = refl
+top_back (y ∷ xs) x h = let e : y ≡ x = cc in ap (λ z. z ∷ xs) (sym e)
+
+pub first_is : {X : Type 0} (xs : List X) (x : X) → slice_get xs 0 ≡ Some x → xs ≡ x ∷ drop 1 xs
+first_is [] x h = cc
+first_is (y ∷ xs) x h = let e : y ≡ x = cc in ap (λ z. z ∷ xs) e
+
+-- what is cut off again was added
+pub cut_back : {X : Type 0} (xs ys : List X) (n : ℕ) → n ≡ length xs → take n (xs ++ ys) ≡ xs
+cut_back xs ys n e = take_at xs ys n (sym e)
+
+-- the work after an item was taken
+rest_is : (o : Option Item) (xs zs : List Item) → MatchOption o ((xs ≡ []) × (zs ≡ [])) (λ x. xs ≡ x ∷ zs) → zs ≡ drop 1 xs
+rest_is None xs zs m = m.1 ∙ ap (drop 1) (sym m.0)
+rest_is (Some x) xs zs m = ap (drop 1) (sym m)
+
+pub popped_is : (o : Option Item) (fs : List Frame) (f : Frame) (work : List Item) → slice_get fs 0 ≡ Some f → MatchOption o ((f.work ≡ []) × (work ≡ [])) (λ x. f.work ≡ x ∷ work) → with_top fs (with_work f work) ≡ popped_top fs
+popped_is o [] f work h m = refl
+popped_is o (g ∷ below) f work h m =
+    let e : g ≡ f = cc in
+    ap (λ w. with_work f w ∷ below) (rest_is o f.work work m) ∙ ap (λ x. with_work x (drop 1 x.work) ∷ below) (sym e)
