@@ -1,12 +1,15 @@
 -- Reading past the end of a list, writing back what was read, and lists that were filled up.
 use Rattle.std.proofs.Common.{◌≡◌, ℕ, zero, suc, ◌+◌, ◌-◌, ◌<◌, List, [], ◌∷◌, ◌++◌, length, get_or, set, take, drop, replicate, Option, Some, None, refl, ap, sym, ◌∙◌, arith}
-use Rattle.std.proofs.lemmas.List.{take_at}
+use Rattle.std.proofs.lemmas.List.{take_at, set-append_left}
+use Rattle.std.proofs.lemmas.Option.{slice_get_within}
 use Rattle.std.specs.Prelude.{slice_get, MatchOption}
 use Rattle.step_state.specs.declared.item.Item.{Item}
 use Rattle.step_state.specs.declared.frame.Frame.{Frame}
 use Rattle.step_state.specs.declared.thread.Thread.{Thread}
-use Rattle.step_state.specs.StackLends.{with_top}
-use Rattle.step_state.specs.Changes.{with_work, with_frames}
+use Rattle.step_state.specs.StackLends.{with_top, with_second}
+use Rattle.step_state.specs.Changes.{with_work, with_values}
+use Rattle.step_values.specs.Popped.{popped}
+use Rattle.step_machine.specs.Tops.{calling}
 use Rattle.step_machine.specs.Next.{popped_top}
 
 pub past_is : {X : Type 0} (xs : List X) (i : ℕ) (d : X) → slice_get xs i ≡ None → get_or xs i d ≡ d
@@ -41,3 +44,19 @@ popped_is o [] f work h m = refl
 popped_is o (g ∷ below) f work h m =
     let e : g ≡ f = cc in
     ap (λ w. with_work f w ∷ below) (rest_is o f.work work m) ∙ ap (λ x. with_work x (drop 1 x.work) ∷ below) (sym e)
+
+-- the frames after a call
+pub called_is : (fs : List Frame) (frame caller w : Frame) (count : ℕ) → slice_get (frame ∷ fs) 1 ≡ Some caller → w ≡ with_values (popped caller) (drop count caller.values) → with_second (frame ∷ fs) w ≡ frame ∷ calling count fs
+called_is [] frame caller w count h e = cc
+called_is (f ∷ below) frame caller w count h e =
+    let same : f ≡ caller = cc in
+    ap (λ x. frame ∷ x ∷ below) e ∙ ap (λ x. frame ∷ with_values (popped x) (drop count x.values) ∷ below) (sym same)
+
+-- a list that is longer by one
+pub set_in_front : {X : Type 0} (xs : List X) (i : ℕ) (x y new : X) → slice_get xs i ≡ Some x → set (xs ++ new ∷ []) i y ≡ set xs i y ++ new ∷ []
+set_in_front xs i x y new h = set-append_left xs (new ∷ []) i y (slice_get_within xs i x h)
+
+pub get_in_front : {X : Type 0} (xs : List X) (i : ℕ) (x new : X) → slice_get xs i ≡ Some x → slice_get (xs ++ new ∷ []) i ≡ Some x
+get_in_front [] i x new h = cc
+get_in_front (z ∷ xs) zero x new h = h
+get_in_front (z ∷ xs) (suc i) x new h = get_in_front xs i x new h

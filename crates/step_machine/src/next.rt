@@ -1,8 +1,9 @@
-ghost use Rattle.std.specs.Prelude.{◌≡◌, ◌<◌, length, MatchOption};
+ghost use Rattle.std.specs.Prelude.{◌≡◌, ◌<◌, length, MatchOption, IsSome};
 ghost use Rattle.step_state.specs.Code.{Code};
 ghost use Rattle.step_machine.specs.Next.{popped_thread, IsNext, IsOver};
+ghost use Rattle.step_machine.specs.Tops.{top_of};
 
-use step_state::{Configuration, Item, Thread};
+use step_state::{Configuration, Frame, Item, Thread};
 
 /// What the thread does next, if it is not over.
 pub fn next_item(state: &Configuration, thread: u32) -> Option<Item>
@@ -23,4 +24,12 @@ pub fn pop_next(thread: &mut Thread)
     ensures { thread.new ≡ popped_thread thread.old }
 {
     thread.frames.top_mut().work.pop();
+}
+
+/// The top frame of a thread that has one.
+pub fn top_frame(state: &Configuration, thread: u32) -> &Frame
+    requires { IsSome (top_of state.now thread) }
+    ensures { top_of state.now thread ≡ Some result.now }
+{
+    state.threads.at(thread as usize).frames.first()
 }

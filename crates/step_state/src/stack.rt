@@ -61,6 +61,15 @@ impl<T: Drop> Stack<T> {
         self.items.last()
     }
 
+    /// The top of a stack that is not empty.
+    #[tactic(auto, using(crate::proofs::Tops::get_last))]
+    pub fn first(&self) -> &T
+        requires { 0 < length self.now }
+        ensures { slice_get self.now 0 ≡ Some result.now }
+    {
+        &self.items[self.items.len() - 1]
+    }
+
     /// The item that lies so many below the top, if there is one.
     pub fn from_top(&self, place: usize) -> Option<&T>
         ensures { MatchOption result (slice_get self.now place ≡ Option.None) (λ x. slice_get self.now place ≡ Some x.now) }

@@ -1,4 +1,4 @@
-ghost use Rattle.std.specs.Prelude.{◌≡◌, ◌<◌, length, Some, IsSome, slice_get};
+ghost use Rattle.std.specs.Prelude.{◌≡◌, ◌<◌, [], length, Some, IsSome, slice_get};
 ghost use Rattle.step_state.specs.Counts.{IsCounted};
 ghost use Rattle.step_state.specs.declared.frame.Frame.{Frame};
 ghost use Rattle.step_state.specs.Reads.{frame_from_bottom, frames_of, leading_ops, op_at, pending, view_of};
@@ -10,6 +10,7 @@ use crate::stack::Stack;
 use crate::table::Table;
 use crate::thread::Thread;
 use cfix_base::{List, NodeId};
+use std::alloc::Global;
 use std::marker::Model;
 
 /// What a state is but for its count of steps. By the number of a global variable: the cells of an
@@ -57,6 +58,27 @@ impl Model for State {
     ghost invariant = { λ s. IsCounted s.counted };
 }
 
+/// A configuration with nothing in it.
+fn blank(alloc: Global) -> Configuration
+    ensures made { result.made ≡ 0 }
+    ensures threads { result.threads ≡ [] }
+    ensures tokens { result.tokens ≡ [] }
+{
+    Configuration {
+        globals: Table::new(alloc),
+        handles: Table::new(alloc),
+        owners: Table::new(alloc),
+        input: Stack::new(alloc),
+        output: List::new(alloc),
+        threads: Table::new(alloc),
+        made: 0,
+        locks: Table::new(alloc),
+        tokens: Table::new(alloc),
+        flags: Table::new(alloc),
+        ending: Ending::Running,
+    }
+}
+
 /// Whether the item that lies so many below the top is an operation.
 fn is_op(work: &Stack<Item>, place: usize) -> bool
     ensures { result ≡ op_at (slice_get work.now place) }
@@ -102,6 +124,17 @@ fn view_of(frame: &Frame) -> FrameView
 }
 
 impl State {
+    /// A state with nothing in it, which can stand in the place of one that was taken out. It takes
+    /// no memory.
+    pub fn blank(alloc: Global) -> State {
+        State {
+            counted: Counted {
+                configuration: blank(alloc),
+                steps: 0,
+            },
+        }
+    }
+
     /// The state that this is. It takes no memory.
     pub fn of(counted: Counted) -> State
         requires { IsCounted counted }
