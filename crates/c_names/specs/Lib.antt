@@ -17,3 +17,4 @@ pub mod Starts
 pub mod Files
 pub mod Sources
 pub mod Texts
+pub mod Parsed

@@ -1,0 +1,16 @@
+-- Which files are those of a text that is read.
+use Rattle.std.specs.Prelude.{◌≡◌, ℕ, List}
+use Rattle.cfix_base.specs.declared.Spot.{Spot}
+use Rattle.cfix_base.specs.declared.limits.TheConstants.{MAX_DEPTH}
+use Rattle.c_lex.specs.Lexed.{Lexed, Lexes}
+use Rattle.c_grammar.specs.File.{File, file_marks, is_file}
+use Rattle.c_grammar.specs.Verdict.{IsRead}
+use Rattle.c_names.specs.Texts.{tokens_read}
+
+-- The file is the one that the grammar assigns to the tokens of some text, whose end is this.
+pub record IsParsed (end : Spot) (file : File) : Type 0 where
+  pub text : List ℕ
+  pub lexed : Lexed
+  pub lexes : Lexes text lexed
+  pub read : IsRead MAX_DEPTH file_marks is_file (tokens_read lexed.tokens) file
+  pub ends : end ≡ lexed.end
