@@ -18,3 +18,4 @@ pub mod FileText
 pub mod Lexing
 pub mod Meanings
 pub mod SpeltExpressions
+pub mod SpeltActs

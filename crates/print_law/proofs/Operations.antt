@@ -139,7 +139,7 @@ true_tree names e test op more spots =
     c.TrueGuardOf (here spots) e (here (behind test spots)) (here (later (behind test spots))) (here (later (later (behind test spots))))
     (guard_tree op more (in_guard test spots)) (here (after (in_guard test spots) (guard_items 1 op more)))
 
-abbrev cond_by : Names → Expr → List Op → List Op → List Spot → c.Cond
+abbrev pub cond_by : Names → Expr → List Op → List Op → List Spot → c.Cond
 cond_by names e [] [] spots = c.Bare (tree_of names e spots)
 cond_by names e (op ∷ more) [] spots = c.OnTrue (true_tree names (tree_of names e (later spots)) (items_of names e) op more spots)
 cond_by names e [] (op ∷ more) spots =
