@@ -4,6 +4,8 @@
 mod build;
 mod control;
 #[cfg(test)]
+mod samples;
+#[cfg(test)]
 mod tests;
 
 pub use build::graphs;
