@@ -160,13 +160,13 @@ module _ (edges : List Edge) (u v : ℕ) where
               | inr not_v ↦
                   let parts = split u v n on.inner on.path on.avoids (inside edges u v n on not_u.1 not_v.1) in
                   let first : is_in ahead n ≡ true =
-                      (reach.ends n).1 (record { inner = parts.front; path = parts.first; clear = avoids_clear parts.front parts.front_avoids }) in
+                  (reach.ends n).1 (record { inner = parts.front; path = parts.first; clear = avoids_clear parts.front parts.front_avoids }) in
                   let second : is_in behind n ≡ true =
-                      (back.begins n).1 (record {
-                        end = v;
-                        is_end = one_has size v v_below;
-                        leads = record { inner = parts.back; path = parts.second; clear = avoids_clear parts.back parts.back_avoids };
-                      }) in
+                  (back.begins n).1 (record {
+                    end = v;
+                    is_end = one_has size v v_below;
+                    leads = record { inner = parts.back; path = parts.second; clear = avoids_clear parts.back parts.back_avoids };
+                  }) in
                   subst (λ b. (if b then is_in ahead v else is_in ahead n && is_in behind n) ≡ true) (sym not_v.0)
                   (ap (λ b. b && is_in behind n) first ∙ second)
             ])

@@ -16,12 +16,7 @@ pub fn one_node(alloc: Global, size: u32, node: NodeId) -> Result<NodeSet, NoMem
 }
 
 /// The set of two nodes.
-pub fn two_nodes(
-    alloc: Global,
-    size: u32,
-    one: NodeId,
-    other: NodeId,
-) -> Result<NodeSet, NoMemory>
+pub fn two_nodes(alloc: Global, size: u32, one: NodeId, other: NodeId) -> Result<NodeSet, NoMemory>
     requires one { one.number < size }
     requires other { other.number < size }
     ensures { IfOk result (λ set. set ≡ two_numbers size one.number other.number) }
@@ -33,13 +28,7 @@ pub fn two_nodes(
 
 // Whether a node is on a path from one node to another, where `ahead` and `behind` are the ends of
 // the paths from the one, and the beginnings of those into the other, between which neither stands.
-fn is_between(
-    ahead: &NodeSet,
-    behind: &NodeSet,
-    from: NodeId,
-    to: NodeId,
-    node: NodeId,
-) -> bool
+fn is_between(ahead: &NodeSet, behind: &NodeSet, from: NodeId, to: NodeId, node: NodeId) -> bool
     ensures { result ≡ is_between ahead.now behind.now from.number to.number node.number }
 {
     if node.number == from.number || node.number == to.number {

@@ -4,6 +4,8 @@
 mod between;
 mod critical;
 #[cfg(test)]
+mod samples;
+#[cfg(test)]
 mod tests;
 
 pub use critical::region;

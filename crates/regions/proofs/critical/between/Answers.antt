@@ -16,10 +16,10 @@ returns c =
     let ends_are : c.in_ok-ends.ends ≡ two_numbers size u v = c.in_ok-ends.ensures ∙ ap (λ s. two_numbers s u v) c.size.ensures in
     let last_is : c.in_ok-last.last ≡ one_number size v = c.in_ok-last.ensures ∙ ap (λ s. one_number s v) c.size-2.ensures in
     let reach : IsReach edges (two_numbers size u v) u size c.in_ok-ahead.ahead =
-        subst (λ ends. IsReach edges ends u size c.in_ok-ahead.ahead) ends_are c.in_ok-ahead.ensures in
+    subst (λ ends. IsReach edges ends u size c.in_ok-ahead.ahead) ends_are c.in_ok-ahead.ensures in
     let back : IsBack edges (two_numbers size u v) (one_number size v) size c.in_ok-behind.behind =
-        subst (λ ends. IsBack edges ends (one_number size v) size c.in_ok-behind.behind) ends_are
-        (subst (λ last. IsBack edges c.in_ok-ends.ends last size c.in_ok-behind.behind) last_is c.in_ok-behind.ensures) in
+    subst (λ ends. IsBack edges ends (one_number size v) size c.in_ok-behind.behind) ends_are
+    (subst (λ last. IsBack edges c.in_ok-ends.ends last size c.in_ok-behind.behind) last_is c.in_ok-behind.ensures) in
     IfOk-weaker c.gather.result (IsGathered c.in_ok-ahead.ahead c.in_ok-behind.behind u v (length c.in_ok-ahead.ahead)) (IsBetween c.args.flow.now c.args.atom.now)
     (λ set gathered. record {
       sized = gathered.sized ∙ reach.sized;
