@@ -1,8 +1,8 @@
 -- What is in the sets of one and of two numbers, and in a set that is gathered.
-use Rattle.std.proofs.Common.{◌≡◌, ◌≢◌, ℕ, ◌+◌, ◌<◌, ◌≤◌, ◌⊎◌, Bool, true, false, List, length, inl, inr, ap, sym, ◌∙◌, refl, subst, arith}
+use Rattle.std.proofs.Common.{◌≡◌, ℕ, ◌+◌, ◌<◌, ◌⊎◌, Bool, true, false, List, length, inl, inr, ap, sym, ◌∙◌, subst, arith}
 use Rattle.std.proofs.lemmas.Bool.{false≢true, cases_eq, cases_lt}
 use Rattle.plan_types.specs.Sets.{no_numbers, is_in, IsIn, with_number}
-use Rattle.plan_types.proofs.Sets.{is_in-no_numbers, is_in-with_same, is_in-with_other, size-with_number, size-no_numbers, is_in-past}
+use Rattle.plan_types.proofs.Sets.{is_in-no_numbers, is_in-with_same, is_in-with_other, size-with_number, size-no_numbers}
 use Rattle.regions.specs.Between.{one_number, two_numbers, is_between, with_if, IsGathered}
 
 pub one_only : (size u n : ℕ) → IsIn (one_number size u) n → n ≡ u

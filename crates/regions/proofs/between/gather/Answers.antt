@@ -1,4 +1,4 @@
-use Rattle.std.proofs.Common.{◌+◌, ◌<◌, length, sym, subst, arith}
+use Rattle.std.proofs.Common.{◌+◌, sym, subst, arith}
 use Rattle.regions.specs.Between.{IsGathered}
 use Rattle.regions.proofs.Sets.{gathered_more}
 use Rattle.regions.proofs.between.gather.Goals as goal
