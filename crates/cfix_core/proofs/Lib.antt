@@ -2,7 +2,7 @@ pub mod StraightFlow
 pub mod StraightOps
 pub mod StraightPlan
 pub mod Strip
-pub mod PlainSites
+pub mod OneAnswer
 pub mod Repair
 pub mod Repaired
 mod Notes

@@ -2,8 +2,6 @@ pub mod Bounds
 pub mod Orders
 pub mod Operations
 pub mod Patched
-pub mod Sites
-pub mod PlainSites
 pub mod OneReport
 pub mod Repair
 pub mod Words

@@ -1,26 +1,27 @@
 -- What `patch` makes of the bytes of its two files, and why it refuses them.
-use Rattle.std.specs.Prelude.{ℕ, ◌≡◌, ◌⊎◌, true, false, List, [], ◌∷◌, Option, Some, None}
-use Rattle.cfix_base.specs.declared.access.AccessId.{AccessId}
+use Rattle.std.specs.Prelude.{ℕ, ◌≡◌, ◌⊎◌, Bool, true, false, if◌then◌else◌, List, [], ◌∷◌, Option, Some, None}
 use Rattle.c_prog.specs.declared.tree.Tree.{Tree}
 use Rattle.c_prog.specs.Lines.{SourceTree}
 use Rattle.c_prog.specs.Strip.{strip_tree}
 use Rattle.c_print.specs.Text.Canonical.{canonical}
+use Rattle.plan_types.specs.declared.bound.Atom.{Atom}
+use Rattle.plan_types.specs.declared.bound.Bound.{Bound}
 use Rattle.plan_types.specs.declared.bound.Bound.TheVariants as bound
 use Rattle.report_json.specs.declared.fault.ReportFault.{ReportFault}
 use Rattle.report_json.specs.declared.fault.ReportFault.TheVariants as fault
 use Rattle.report_json.specs.declared.report.Report.{Report}
-use Rattle.report_json.specs.declared.report.Site.{Site}
+use Rattle.report_bind.specs.Binds.{Binds, Refuses}
+use Rattle.report_bind.specs.Fits.{Fits}
+use Rattle.report_bind.specs.declared.fault.BindFault.{BindFault}
+use Rattle.report_bind.specs.declared.fault.BindFault.TheVariants as unbound
 use Rattle.report_json.specs.Reading.{SpellsReports, ExplainsReportFault}
 use Rattle.first_form.specs.Form.{is_first_form}
 use Rattle.first_form.specs.Spelled.{spelled}
 use Rattle.first_form.specs.declared.region.Region.{Region}
-use Rattle.cfix_core.specs.OneReport.{Trio, only_report}
-use Rattle.cfix_core.specs.Sites.{site_in, in_one_visit, visit_atom}
+use Rattle.cfix_core.specs.OneReport.{only_report}
 use Rattle.cfix_core.specs.Patched.{IsPatched}
-use Rattle.cfix_core.specs.declared.patch.Role.{Role}
-use Rattle.cfix_core.specs.declared.patch.Role.TheVariants.{P, C, R}
 use Rattle.cfix_core.specs.declared.patch.Refusal.{Refusal}
-use Rattle.cfix_core.specs.declared.patch.Refusal.TheVariants.{Source, NotJson, Shape, TooMany, Reports, NoSite, OtherMode}
+use Rattle.cfix_core.specs.declared.patch.Refusal.TheVariants.{Source, NotJson, Shape, TooMany, Reports, NoSite, StackBroken, NoPath, OtherMode}
 use Rattle.cfix_core.specs.declared.patch.Failure.{Failure}
 use Rattle.cfix_core.specs.declared.patch.Failure.TheVariants as failure
 
@@ -32,11 +33,11 @@ pub record IsSource (text : List ℕ) (source : SourceTree) : Type 0 where
 abbrev pub NoSource : List ℕ → Type 0
 NoSource text = (source : SourceTree) → IsSource text source → ⊥
 
--- the reports are one atomicity report with these sites, without stacks
-pub record IsTrio (reports : List ℕ) (trio : Trio) : Type 0 where
+-- the reports are this one atomicity report, without stacks
+pub record IsReport (reports : List ℕ) (report : Report) : Type 0 where
   pub list : List Report
   pub spells : SpellsReports reports list
-  pub only : only_report list ≡ Some trio
+  pub only : only_report list ≡ Some report
 
 -- the reports are read, and are not of the first form
 pub record OtherReports (reports : List ℕ) : Type 0 where
@@ -48,58 +49,52 @@ pub record OtherReports (reports : List ℕ) : Type 0 where
 pub record Reads (source reports : List ℕ) : Type 0 where
   pub program : SourceTree
   pub is_source : IsSource source program
-  pub trio : Trio
-  pub is_trio : IsTrio reports trio
+  pub report : Report
+  pub is_report : IsReport reports report
 
--- the site means this access
-abbrev pub Means : SourceTree → Site → AccessId → Type 0
-Means program site access = site_in program site ≡ Some access
+-- p and c lie in one visit
+abbrev pub in_one_visit : Bound → Bool
+in_one_visit (bound.Atom atom) = atom.same_visit
+in_one_visit _ = false
 
--- no access is meant by the site
-abbrev pub MeansNone : SourceTree → Site → Type 0
-MeansNone program site = site_in program site ≡ None
-
--- the sites of p, c and r mean these accesses
-pub record Binds (program : SourceTree) (trio : Trio) : Type 0 where
-  pub p : AccessId
-  pub is_p : Means program trio.p p
-  pub c : AccessId
-  pub is_c : Means program trio.c c
-  pub r : AccessId
-  pub is_r : Means program trio.r r
-
--- p, c and r mean accesses, and p stands before c in one node
-pub record Visits (program : SourceTree) (trio : Trio) : Type 0 where
-  pub binds : Binds program trio
-  pub one_visit : in_one_visit binds.p binds.c ≡ true
+-- the report is bound, and p and c lie in one visit
+pub record Visits (program : SourceTree) (report : Report) : Type 0 where
+  pub bound : Bound
+  pub binds : Binds program report bound
+  pub one_visit : in_one_visit bound ≡ true
 
 -- `text` is the canonical text of the program patched for the report, and without its operations
 -- that is the program
-pub record IsRepaired (program : SourceTree) (trio : Trio) (text : List ℕ) : Type 0 where
-  pub visits : Visits program trio
+pub record IsRepaired (program : SourceTree) (report : Report) (text : List ℕ) : Type 0 where
+  pub visits : Visits program report
   pub q : Tree
-  pub is_patched : IsPatched program.tree
-      (bound.Atom (visit_atom visits.binds.p visits.binds.c visits.binds.r) ∷ []) q
+  pub is_patched : IsPatched program.tree (visits.bound ∷ []) q
   pub stripped : strip_tree q ≡ program.tree
   pub is_text : text ≡ canonical q
 
--- the first site, in the order p, c, r, that means no access
-abbrev pub LacksSite : Role → SourceTree → Trio → Type 0
-LacksSite P program trio = MeansNone program trio.p
-LacksSite C program trio = ((p : AccessId) × Means program trio.p p) × MeansNone program trio.c
-LacksSite R program trio =
-    ((p : AccessId) × Means program trio.p p) × ((c : AccessId) × Means program trio.c c) × MeansNone program trio.r
+-- the report is bound, and p and c do not lie in one visit
+pub record OtherVisits (program : SourceTree) (report : Report) : Type 0 where
+  pub bound : Bound
+  pub binds : Binds program report bound
+  pub other : in_one_visit bound ≡ false
 
--- the sites mean accesses, and p does not stand before c in one node
-pub record OtherVisits (program : SourceTree) (trio : Trio) : Type 0 where
-  pub binds : Binds program trio
-  pub other : in_one_visit binds.p binds.c ≡ false
+-- the refusal for the rule that an atomicity report without stacks does not keep; the rules of roots and
+-- of orders ask nothing of it
+abbrev pub refusal_for : BindFault → Option Refusal
+refusal_for (unbound.NoSite role) = Some (NoSite role)
+refusal_for (unbound.StackBroken role) = Some (StackBroken role)
+refusal_for (unbound.NoPath np nc) = Some (NoPath np nc)
+refusal_for _ = None
 
--- what the sites of a report are refused for
-abbrev pub Unbound : Refusal → SourceTree → Trio → Type 0
-Unbound (NoSite role) program trio = LacksSite role program trio
-Unbound OtherMode program trio = OtherVisits program trio
-Unbound _ program trio = ⊥
+-- the report does not keep a rule
+pub record Breaks (refusal : Refusal) (program : SourceTree) (report : Report) : Type 0 where
+  pub fault : BindFault
+  pub is_fault : refusal_for fault ≡ Some refusal
+  pub refuses : Refuses program report fault
+
+-- what a report is refused for
+abbrev pub Unbound : Refusal → SourceTree → Report → Type 0
+Unbound refusal program report = Breaks refusal program report ⊎ ((refusal ≡ OtherMode) × OtherVisits program report)
 
 -- the refusal for a fault of the text of the reports; want of memory is none
 abbrev pub refusal_of : ReportFault → Option Refusal
@@ -124,25 +119,25 @@ pub record RefusesReports (refusal : Refusal) (source reports : List ℕ) : Type
   pub is_source : IsSource source program
   pub wrong : Wrong refusal reports
 
--- both files are read, and the sites are refused
-pub record RefusesSites (refusal : Refusal) (source reports : List ℕ) : Type 0 where
+-- both files are read, and the report is not bound as is asked
+pub record RefusesReport (refusal : Refusal) (source reports : List ℕ) : Type 0 where
   pub reads : Reads source reports
-  pub unbound : Unbound refusal reads.program reads.trio
+  pub unbound : Unbound refusal reads.program reads.report
 
--- why the files are refused: for the source, for the reports, or for the sites
+-- why the files are refused: for the source, for the reports, or for what the one report means
 abbrev pub RefusedBy : Refusal → List ℕ → List ℕ → Type 0
 RefusedBy refusal source reports =
-    ((refusal ≡ Source) × NoSource source) ⊎ (RefusesReports refusal source reports ⊎ RefusesSites refusal source reports)
+    ((refusal ≡ Source) × NoSource source) ⊎ (RefusesReports refusal source reports ⊎ RefusesReport refusal source reports)
 
 -- nothing refuses the files
 pub record IsAccepted (source reports : List ℕ) : Type 0 where
   pub reads : Reads source reports
-  pub visits : Visits reads.program reads.trio
+  pub visits : Visits reads.program reads.report
 
 -- `text` is what is written for the files
 pub record Repaired (source reports text : List ℕ) : Type 0 where
   pub reads : Reads source reports
-  pub repaired : IsRepaired reads.program reads.trio text
+  pub repaired : IsRepaired reads.program reads.report text
 
 -- why a stage fails; want of memory needs no reason
 abbrev pub FailsBy : (Refusal → Type 0) → Failure → Type 0
@@ -156,22 +151,44 @@ failure_of fault.BadJson = failure.Refused NotJson
 failure_of (fault.Shape which) = failure.Refused (Shape which)
 failure_of fault.TooMany = failure.Refused TooMany
 
--- p, c and r mean accesses, p stands before c in one node, and these are the nodes of p and r
-pub record IsRegion (program : SourceTree) (trio : Trio) (region : Region) : Type 0 where
-  pub visits : Visits program trio
-  pub here : region.here ≡ visits.binds.p.node.number
-  pub there : region.there ≡ visits.binds.r.node.number
+-- the nodes of p and r, where p and c lie in one visit of a node
+abbrev pub region_of_atom : Atom → Option Region
+region_of_atom atom =
+    if atom.same_visit then Some (record { here = atom.np.number; there = atom.r.node.number }) else None
+
+abbrev pub region_of : Bound → Option Region
+region_of (bound.Atom atom) = region_of_atom atom
+region_of _ = None
+
+-- the report is bound to this, which is one of the program
+pub record IsBound (program : SourceTree) (report : Report) (bound : Bound) : Type 0 where
+  pub binds : Binds program report bound
+  pub fits : Fits program.tree bound
+
+-- the refusal is for a rule of binding
+abbrev pub HasRefusal : BindFault → Type 0
+HasRefusal (unbound.NotRoot function) = ⊥
+HasRefusal unbound.MaybeAccess = ⊥
+HasRefusal (unbound.OrderCycle node) = ⊥
+HasRefusal _ = Unit {0}
+
+-- the failure for a rule of binding
+abbrev pub failure_for : BindFault → Failure
+failure_for (unbound.NoSite role) = failure.Refused (NoSite role)
+failure_for (unbound.StackBroken role) = failure.Refused (StackBroken role)
+failure_for (unbound.NoPath np nc) = failure.Refused (NoPath np nc)
+failure_for _ = failure.NoMemory
 
 -- the same for reports that were read
 pub record RepairedFor (program : SourceTree) (list : List Report) (text : List ℕ) : Type 0 where
-  pub trio : Trio
-  pub only : only_report list ≡ Some trio
-  pub repaired : IsRepaired program trio text
+  pub report : Report
+  pub only : only_report list ≡ Some report
+  pub repaired : IsRepaired program report text
 
 pub record UnboundFor (refusal : Refusal) (program : SourceTree) (list : List Report) : Type 0 where
-  pub trio : Trio
-  pub only : only_report list ≡ Some trio
-  pub unbound : Unbound refusal program trio
+  pub report : Report
+  pub only : only_report list ≡ Some report
+  pub unbound : Unbound refusal program report
 
 abbrev pub RefusedWith : Refusal → SourceTree → List Report → Type 0
 RefusedWith refusal program list =

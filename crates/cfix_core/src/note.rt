@@ -2,14 +2,16 @@ ghost use Rattle.std.specs.Prelude.{◌≡◌, ◌≤◌, ◌++◌, OnOk, OnErr}
 ghost use Rattle.cfix_outside.specs.Faults.{Rose};
 ghost use Rattle.cfix_outside.specs.Sinks.{Gained, GainedFront};
 ghost use Rattle.cfix_core.specs.Words.{asked_of};
-ghost use Rattle.cfix_core.specs.Stops.{limit_end, long_line, site_line, report_shape_line, shape_line, refusal_line, line_of, words_line};
+ghost use Rattle.cfix_core.specs.Stops.{limit_end, long_line, letter_of, number_end, path_start, path_line, report_shape_line, shape_line, refusal_line, line_of, words_line};
 ghost use Rattle.cfix_core.specs.Answers.{Noted};
 
-use crate::patch::{Refusal, Role};
+use crate::patch::Refusal;
 use crate::stop::{Stop, limit_of, word_of};
 use crate::words::Request;
+use cfix_base::NodeId;
 use cfix_outside::{Sink, SinkFault};
 use itoa::Buffer;
+use report_bind::Role;
 
 fn put_two<N: Sink>(note: &mut N, name: &str, last: &[u8]) -> Result<(), SinkFault>
     ensures taken { OnOk result (Gained (N.taken note.old) (N.taken note.new) (name.now ++ last.now)) }
@@ -53,14 +55,51 @@ fn put_long_line<N: Sink>(note: &mut N, name: &str, limit: usize) -> Result<(), 
     Ok(())
 }
 
-fn site_line(role: Role) -> &'static [u8]
-    ensures { result.now ≡ site_line role }
+fn letter_of(role: Role) -> &'static str
+    ensures { result.now ≡ letter_of role }
 {
     match role {
-        Role::P => b"cfix: report 0: no site for p\n",
-        Role::C => b"cfix: report 0: no site for c\n",
-        Role::R => b"cfix: report 0: no site for r\n",
+        Role::P => "p",
+        Role::C => "c",
+        Role::R => "r",
+        Role::A => "a",
+        Role::B => "b",
     }
+}
+
+fn put_number_end<N: Sink>(note: &mut N, number: u32) -> Result<(), SinkFault>
+    ensures taken { OnOk result (Gained (N.taken note.old) (N.taken note.new) (number_end number)) }
+    ensures front { OnErr result (GainedFront (N.taken note.old) (N.taken note.new) (number_end number)) }
+    ensures later { N.faults note.old ≤ N.faults note.new }
+    ensures cause { OnErr result (Rose (N.faults note.old) (N.faults note.new)) }
+{
+    let mut buffer = Buffer::new();
+    put_two(note, buffer.format(number), b"\n")
+}
+
+fn put_path_start<N: Sink>(note: &mut N, number: u32) -> Result<(), SinkFault>
+    ensures taken { OnOk result (Gained (N.taken note.old) (N.taken note.new) (path_start number)) }
+    ensures front { OnErr result (GainedFront (N.taken note.old) (N.taken note.new) (path_start number)) }
+    ensures later { N.faults note.old ≤ N.faults note.new }
+    ensures cause { OnErr result (Rose (N.faults note.old) (N.faults note.new)) }
+{
+    let mut buffer = Buffer::new();
+    put_three(
+        note,
+        b"cfix: report 0: no path from node ",
+        buffer.format(number),
+        b" to node ",
+    )
+}
+
+fn put_path<N: Sink>(note: &mut N, np: NodeId, nc: NodeId) -> Result<(), SinkFault>
+    ensures taken { OnOk result (Gained (N.taken note.old) (N.taken note.new) (path_line np nc)) }
+    ensures front { OnErr result (GainedFront (N.taken note.old) (N.taken note.new) (path_line np nc)) }
+    ensures cause { OnErr result (Rose (N.faults note.old) (N.faults note.new)) }
+{
+    put_path_start(note, np.number)?;
+    put_number_end(note, nc.number)?;
+    Ok(())
 }
 
 fn put_report_shape<N: Sink>(note: &mut N, number: u32) -> Result<(), SinkFault>
@@ -99,7 +138,19 @@ fn put_refusal<N: Sink>(note: &mut N, refusal: Refusal) -> Result<(), SinkFault>
         Refusal::Shape(which) => put_shape(note, which),
         Refusal::TooMany => note.put(b"cfix: reports: more than 200\n"),
         Refusal::Reports => note.put(b"cfix: reports: outside the first form\n"),
-        Refusal::NoSite(role) => note.put(site_line(role)),
+        Refusal::NoSite(role) => put_three(
+            note,
+            b"cfix: report 0: no site for ",
+            letter_of(role),
+            b"\n",
+        ),
+        Refusal::StackBroken(role) => put_three(
+            note,
+            b"cfix: report 0: broken stack of ",
+            letter_of(role),
+            b"\n",
+        ),
+        Refusal::NoPath(np, nc) => put_path(note, np, nc),
         Refusal::OtherMode => note.put(b"cfix: reports: outside the first form\n"),
     }
 }

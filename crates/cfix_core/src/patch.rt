@@ -1,28 +1,21 @@
 ghost use Rattle.std.specs.Prelude.{◌≡◌, ◌<◌, ◌≤◌, length, true, Some, None, IfOk, IfErr};
 ghost use Rattle.first_form.specs.Form.{is_first_form, plains_of};
 ghost use Rattle.report_json.specs.Reading.{SpellsReports};
-ghost use Rattle.cfix_core.specs.OneReport.{seen_sites};
-ghost use Rattle.cfix_core.specs.Repair.{IsSource, NoSource, IsTrio, Wrong, Unbound, IsRepaired, Means, MeansNone, Repaired, RefusedBy, RepairedFor, RefusedWith, FailsBy, failure_of, IsRegion};
+ghost use Rattle.cfix_core.specs.OneReport.{is_bare};
+ghost use Rattle.cfix_core.specs.Repair.{IsSource, NoSource, Wrong, Unbound, IsRepaired, Repaired, RefusedBy, RepairedFor, RefusedWith, FailsBy, failure_of};
 ghost use Rattle.c_print.specs.Text.Canonical.{canonical};
 ghost use Rattle.first_form.specs.Form.{acts_of};
 ghost use Rattle.first_form.specs.Straight.{guarded};
 
-use crate::one_report::{Sites, only_report};
-use crate::site::{find_site, in_one_visit};
+use crate::binding::{bound_of, region_of};
+use crate::one_report::only_report;
 use c_print::print;
 use c_prog::Source;
-use cfix_base::{AccessId, NoMemory};
+use cfix_base::{NoMemory, NodeId};
 use first_form::{Plain, Region, first_source, guarded, is_first_form, plains_of};
-use report_json::{ReportFault, Reports, Site, reports};
+use report_bind::Role;
+use report_json::{Report, ReportFault, Reports, reports};
 use std::alloc::Global;
-
-/// A site of an atomicity report.
-#[derive(Clone, Copy, Debug, PartialEq, Eq)]
-pub enum Role {
-    P,
-    C,
-    R,
-}
 
 /// Why the two files are refused.
 #[derive(Clone, Copy, Debug, PartialEq, Eq)]
@@ -40,7 +33,11 @@ pub enum Refusal {
     Reports,
     /// This site means no access.
     NoSite(Role),
-    /// The sites mean accesses, and p does not stand before c in one node.
+    /// The stack of this site means no calls.
+    StackBroken(Role),
+    /// No path of control leads from the first node, of p, to the second, of c.
+    NoPath(NodeId, NodeId),
+    /// The report is bound, and p and c do not lie in one visit of a node.
     OtherMode,
 }
 
@@ -102,46 +99,6 @@ fn reports_of(alloc: Global, text: &[u8]) -> Result<Reports, Failure>
     }
 }
 
-/// The access that a site means.
-fn access_of(
-    source: &Source,
-    plains: &[Plain],
-    site: &Site,
-    role: Role,
-) -> Result<AccessId, Refusal>
-    requires form { is_first_form source.now.tree ≡ true }
-    requires statements { plains.now ≡ plains_of source.now.tree }
-    ensures found { IfOk result (λ id. Means source.now site.now id) }
-    ensures within { IfOk result (λ id. id.node.number < length plains.now) }
-    ensures missing { IfErr result (λ refusal. (refusal ≡ Refusal.NoSite role) × MeansNone source.now site.now) }
-{
-    match find_site(source, plains, site) {
-        Some(id) => Ok(id),
-        None => Err(Refusal::NoSite(role)),
-    }
-}
-
-/// The nodes of p and r, if p, c and r mean accesses and p stands before c in one node.
-fn bound_region(source: &Source, plains: &[Plain], sites: &Sites<'_>) -> Result<Region, Refusal>
-    requires form { is_first_form source.now.tree ≡ true }
-    requires statements { plains.now ≡ plains_of source.now.tree }
-    ensures bound { IfOk result (λ region. IsRegion source.now (seen_sites sites.now) region) }
-    ensures within { IfOk result (λ region. (region.here < length plains.now) × (region.there < length plains.now)) }
-    ensures refused { IfErr result (λ refusal. Unbound refusal source.now (seen_sites sites.now)) }
-{
-    let p = access_of(source, plains, sites.p, Role::P)?;
-    let c = access_of(source, plains, sites.c, Role::C)?;
-    let r = access_of(source, plains, sites.r, Role::R)?;
-    if in_one_visit(p, c) {
-        Ok(Region {
-            here: p.node.number,
-            there: r.node.number,
-        })
-    } else {
-        Err(Refusal::OtherMode)
-    }
-}
-
 /// The text of a program of the first form with the operations round a region.
 fn guarded_text(
     alloc: Global,
@@ -158,15 +115,17 @@ fn guarded_text(
 }
 
 /// The text of the program patched for a report.
-fn patched_for(alloc: Global, source: &Source, sites: &Sites<'_>) -> Result<Vec<u8>, Failure>
-    requires { is_first_form source.now.tree ≡ true }
-    ensures done { IfOk result (λ text. IsRepaired source.now (seen_sites sites.now) text.items) }
-    ensures refused { IfErr result (FailsBy (λ refusal. Unbound refusal source.now (seen_sites sites.now))) }
+fn patched_for(alloc: Global, source: &Source, report: &Report) -> Result<Vec<u8>, Failure>
+    requires form { is_first_form source.now.tree ≡ true }
+    requires bare { is_bare report.now ≡ true }
+    ensures done { IfOk result (λ text. IsRepaired source.now report.now text.items) }
+    ensures refused { IfErr result (FailsBy (λ refusal. Unbound refusal source.now report.now)) }
 {
     let plains = plains_of(alloc, source.program())?;
-    match bound_region(source, plains.as_slice(), sites) {
-        Ok(region) => Ok(guarded_text(alloc, source, plains.as_slice(), region)?),
-        Err(refusal) => Err(Failure::Refused(refusal)),
+    let bound = bound_of(alloc, source, report)?;
+    match region_of(&bound) {
+        Some(region) => Ok(guarded_text(alloc, source, plains.as_slice(), region)?),
+        None => Err(Failure::Refused(Refusal::OtherMode)),
     }
 }
 
@@ -177,7 +136,7 @@ fn patched_by(alloc: Global, source: &Source, list: &Reports) -> Result<Vec<u8>,
     ensures refused { IfErr result (FailsBy (λ refusal. RefusedWith refusal source.now list.now)) }
 {
     match only_report(list.as_slice()) {
-        Some(sites) => patched_for(alloc, source, &sites),
+        Some(report) => patched_for(alloc, source, report),
         None => Err(Failure::Refused(Refusal::Reports)),
     }
 }

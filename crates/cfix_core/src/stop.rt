@@ -78,6 +78,8 @@ fn refusal_status(refusal: Refusal) -> u8
         Refusal::TooMany => 7,
         Refusal::Reports => 7,
         Refusal::NoSite(_) => 8,
+        Refusal::StackBroken(_) => 8,
+        Refusal::NoPath(_, _) => 8,
         Refusal::OtherMode => 7,
     }
 }

@@ -78,6 +78,13 @@ const TWO_NODES: &[u8] = b"{\"reports\":[{\"kind\":\"atomicity\",
  \"r\":{\"line\":4,\"var\":\"a\",\"access\":\"write\"}}]}
 ";
 
+/// p is in the last node, and c in the first.
+const EXCHANGED: &[u8] = b"{\"reports\":[{\"kind\":\"atomicity\",
+ \"p\":{\"line\":6,\"var\":\"a\",\"access\":\"write\"},
+ \"c\":{\"line\":4,\"var\":\"a\",\"access\":\"read\"},
+ \"r\":{\"line\":4,\"var\":\"a\",\"access\":\"write\"}}]}
+";
+
 /// c comes before p in their node.
 const TURNED: &[u8] = b"{\"reports\":[{\"kind\":\"atomicity\",
  \"p\":{\"line\":4,\"var\":\"a\",\"access\":\"write\"},
@@ -102,7 +109,20 @@ fn the_examples_are_patched_or_refused(rt: HostRuntime) {
         (THREE, NO_C, 8, b"", b"cfix: report 0: no site for c\n"),
         (THREE, NO_SITE, 8, b"", b"cfix: report 0: no site for p\n"),
         (THREE, TWO_NODES, 7, b"", outside),
-        (THREE, TURNED, 7, b"", outside),
+        (
+            THREE,
+            TURNED,
+            8,
+            b"",
+            b"cfix: report 0: no path from node 0 to node 0\n",
+        ),
+        (
+            THREE,
+            EXCHANGED,
+            8,
+            b"",
+            b"cfix: report 0: no path from node 2 to node 0\n",
+        ),
         (TWICE, TWICE_REPORT, 0, TWICE_PATCHED, b""),
         (
             b"",
