@@ -19,3 +19,5 @@ pub mod Lexing
 pub mod Meanings
 pub mod SpeltExpressions
 pub mod SpeltActs
+pub mod Places
+pub mod SpeltStatements

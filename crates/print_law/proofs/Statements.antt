@@ -371,7 +371,7 @@ simple-told names a ops = λ d spots.
     ((sign s.Semicolon (here behind), d) ∷ o.ops_marks d (ops_tree ops (later behind))) (act-told names a d spots)
     (ap (λ z. sign s.Semicolon (here behind) ∷ z) (ops-told ops d (later behind)))
 
-lone-does : (names : Names) (s : Stmt) (more : Stmts) → is_lone s more ≡ true → (spots : List Spot) → stmt_tree names s spots ≡ t.Does (stmt_in (stmt_tree names s spots))
+pub lone-does : (names : Names) (s : Stmt) (more : Stmts) → is_lone s more ≡ true → (spots : List Spot) → stmt_tree names s spots ≡ t.Does (stmt_in (stmt_tree names s spots))
 lone-does names (If cond on_true on_false) more e spots = refl
 lone-does names (Jumps j ops) more e spots = refl
 lone-does names (Loop cond step body) more e spots = refl
