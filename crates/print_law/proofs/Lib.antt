@@ -21,3 +21,5 @@ pub mod SpeltExpressions
 pub mod SpeltActs
 pub mod Places
 pub mod SpeltStatements
+pub mod Tables
+pub mod Programs
