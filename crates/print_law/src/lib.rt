@@ -1,2 +1,6 @@
-//! The law of the canonical text.
+//! The law of the canonical text: it spells its program again.
 #![tactic(auto)]
+
+mod laws;
+
+pub use laws::the_canonical_text_is_a_file;
