@@ -7,6 +7,7 @@ mod least;
 mod local;
 mod notes;
 mod scope;
+mod sizes;
 mod table;
 mod uses;
 
@@ -15,6 +16,7 @@ pub use least::{note, note_if};
 pub use local::Local;
 pub use notes::{note_declare, note_reserved, note_use};
 pub use scope::Scope;
+pub use sizes::{note_length, note_size, size_length, size_number};
 pub use table::{Meaning, Row, Table};
 pub use uses::{
     Use, defined_number, function_number, global_number, is_cast, is_defined, is_element, is_int,
