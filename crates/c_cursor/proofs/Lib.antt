@@ -1,3 +1,5 @@
 pub mod Places
+pub mod Exits
 pub mod Looks
+pub mod Loops
 pub mod Same
