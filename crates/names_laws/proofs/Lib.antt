@@ -1,0 +1,5 @@
+pub mod Weights
+pub mod ExprLines
+pub mod StmtLines
+pub mod CallLines
+pub mod Lined
