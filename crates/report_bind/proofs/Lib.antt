@@ -4,3 +4,4 @@ pub mod CallPaths
 pub mod Traced
 pub mod Rules
 pub mod Turns
+mod SampleValid
