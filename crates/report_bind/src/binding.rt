@@ -152,7 +152,8 @@ fn answer(
 /// not keep. The sites of p, c and r are accesses of the program (else `NoSite`); the stack of p, and
 /// that of c, are calls of it, and both begin in one function (else `StackBroken`); where one of them
 /// has a call, threads begin in that function (else `NotRoot`); and the region is not empty (else
-/// `NoPath`). Each site is looked up in one pass over the program.
+/// `NoPath`). A site costs one pass over the lines of the accesses, and a walk of the program for each
+/// access on its line.
 pub fn bind(
     alloc: Global,
     source: &Source,
