@@ -1,0 +1,37 @@
+-- The calls of the headers, each from what its reader reads.
+use Rattle.std.specs.Prelude.{None, Some}
+use Rattle.std.proofs.Common.{inl, inr}
+use Rattle.c_grammar.specs.Expr.{Expr, Long}
+use Rattle.c_grammar.specs.Simple.{ThreadArg, Library}
+use Rattle.c_grammar.specs.ReadExpr.{paren_from}
+use Rattle.c_grammar.specs.ReadSimple.{CastTail, CastArgParts, thread_arg_from, CreateParts, JoinParts, LockParts, PrintParts, ScanParts, library_from}
+use Rattle.c_raw.specs.Exprs.{long_view, expr_view}
+use Rattle.c_expr.specs.declared.headers.CastValue.{CastValue}
+
+abbrev pub cast_view : CastValue → Long × Expr
+cast_view c = (long_view c.long, expr_view c.value)
+
+abbrev pub cast_in : CastTail → Long × Expr
+cast_in (before, inl x) = (Some (before, (x.0, x.1.0)), x.1.1)
+cast_in (before, inr x) = (None, paren_from (before, x))
+
+abbrev pub arg_from : CastArgParts → ThreadArg
+arg_from x = thread_arg_from (inr x)
+
+abbrev pub create_from : CreateParts → Library
+create_from x = library_from (inl x)
+
+abbrev pub join_from : JoinParts → Library
+join_from x = library_from (inr (inl x))
+
+abbrev pub lock_from : LockParts → Library
+lock_from x = library_from (inr (inr (inl x)))
+
+abbrev pub unlock_from : LockParts → Library
+unlock_from x = library_from (inr (inr (inr (inl x))))
+
+abbrev pub print_from : PrintParts → Library
+print_from x = library_from (inr (inr (inr (inr (inl x)))))
+
+abbrev pub scan_from : ScanParts → Library
+scan_from x = library_from (inr (inr (inr (inr (inr x)))))

@@ -1,0 +1,5 @@
+pub mod Finds
+pub mod Signs
+pub mod Operators
+pub mod Parts
+pub mod Calls
