@@ -1,0 +1,8 @@
+use Rattle.std.proofs.Common.{◌≡◌, Some, None, refl, ap, ◌∙◌}
+use Rattle.c_grammar.specs.Stmt.{NoElse}
+use Rattle.c_raw.specs.Stmts.{stmt_view, if_view}
+use Rattle.c_raw.proofs.Equations.{stmt-If}
+use Rattle.c_stmt.proofs.choice.choice.Goals as goal
+
+pub returns : goal.returns
+returns c = rw (stmt-If c.in_ok-test.test c.in_ok-then.then None, c.in_ok-test.ensures, c.in_ok-then.ensures) refl

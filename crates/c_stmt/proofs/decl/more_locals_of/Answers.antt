@@ -1,0 +1,21 @@
+use Rattle.std.proofs.Common.{◌≡◌, ◌<◌, Bool, true, false, drop, map, sym, ◌∙◌, arith, rules}
+use Rattle.std.proofs.lemmas.Result.{err_from_is_err_and}
+use Rattle.std.proofs.lemmas.List.{map_push}
+use Rattle.c_grammar.specs.Reader.{begins, size}
+use Rattle.c_grammar.specs.declared.sign.Sign.TheVariants as s
+use Rattle.c_grammar.specs.Read.{is_sign}
+use Rattle.c_stmt.specs.Decls.{next_local_view, next_local}
+use Rattle.c_stmt.proofs.Loop as loop
+use Rattle.c_stmt.proofs.Stop.{stops_by}
+use Rattle.c_stmt.proofs.decl.more_locals_of.Goals as goal
+
+pub returns-then-not-is_sign : goal.returns-then-not-is_sign
+returns-then-not-is_sign c =
+    let none : begins (is_sign s.Comma) (drop c.locals.place c.args.cursor.now.tokens) ≡ false = first_of (cc, search rules) in
+    loop.ends (is_sign s.Comma) (next_local c.args.depth) (drop c.args.at c.args.cursor.now.tokens) (map next_local_view c.locals.more) c.locals.counter (drop c.locals.place c.args.cursor.now.tokens) c.locals.invariant none
+
+pub locals-preserved : goal.locals-preserved
+locals-preserved c =
+    let room : c.locals.counter < size (drop c.args.at c.args.cursor.now.tokens) = omega (arith, c.left-end.ensures, c.locals-test.true) in
+    let more : begins (is_sign s.Comma) (drop c.locals.place c.args.cursor.now.tokens) ≡ true = first_of (cc, search rules) in
+    rw (c.in_ok-push.ensures.pushed, map_push next_local_view c.locals.more c.in_ok-next.next) (loop.turns (is_sign s.Comma) (next_local c.args.depth) (drop c.args.at c.args.cursor.now.tokens) (map next_local_view c.locals.more) c.locals.counter (drop c.locals.place c.args.cursor.now.tokens) c.locals.invariant room more _ _ c.in_ok-next.ensures)

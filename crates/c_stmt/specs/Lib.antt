@@ -1,0 +1,6 @@
+pub mod Conds
+pub mod Decls
+pub mod Jumps
+pub mod Loops
+pub mod Stmts
+pub mod Tests

@@ -1,0 +1,172 @@
+//! Jumps (6.8.6 of ISO/IEC 9899:2011).
+ghost use Rattle.std.specs.Prelude.{drop};
+ghost use Rattle.c_raw.specs.Stmts.{bare_view, bare_block_view, value_block_view, jump_view};
+ghost use Rattle.c_grammar.specs.ReadStmt.{read_bare};
+ghost use Rattle.c_cursor.specs.Gives.{Gives};
+ghost use Rattle.c_stmt.specs.Jumps.{jump_at, bare_block_from, value_block_from};
+
+use c_cursor::{Cursor, ReadFault};
+use c_expr::{op, ops, value};
+use c_grammar::{Sign, Word};
+use c_raw::{Bare, BareBlock, Jump, ValueBlock};
+use cfix_base::Spot;
+use std::alloc::Global;
+
+/// A jump without a value and without its semicolon.
+pub(crate) fn bare_of(cursor: &Cursor<'_>, at: usize) -> Result<(Bare, usize), ReadFault>
+    ensures { Gives bare_view cursor.now.tokens result (read_bare (drop at cursor.now.tokens)) }
+{
+    if cursor.is_word(Word::Break, at) {
+        let (word, at) = cursor.word(Word::Break, at)?;
+        return Ok((Bare::Break(word), at));
+    }
+    if cursor.is_word(Word::Continue, at) {
+        let (word, at) = cursor.word(Word::Continue, at)?;
+        return Ok((Bare::Continue(word), at));
+    }
+    let (word, at) = cursor.word(Word::Return, at)?;
+    if !cursor.is_word(Word::Null, at) {
+        return Ok((Bare::Return(word), at));
+    }
+    let (null, at) = cursor.word(Word::Null, at)?;
+    Ok((Bare::ReturnNull { at: word, null }, at))
+}
+
+/// A jump that is no block.
+#[tactic(auto, unfolding(crate::specs::Jumps::jump_at))]
+pub(crate) fn jump_of(
+    cursor: &Cursor<'_>,
+    alloc: Global,
+    depth: u32,
+    at: usize,
+) -> Result<(Jump, usize), ReadFault>
+    ensures { Gives jump_view cursor.now.tokens result (jump_at depth (drop at cursor.now.tokens)) }
+{
+    if cursor.is_word(Word::Break, at) {
+        let (word, at) = cursor.word(Word::Break, at)?;
+        let (end, at) = cursor.sign(Sign::Semicolon, at)?;
+        return Ok((
+            Jump::Bare {
+                bare: Bare::Break(word),
+                end,
+            },
+            at,
+        ));
+    }
+    if cursor.is_word(Word::Continue, at) {
+        let (word, at) = cursor.word(Word::Continue, at)?;
+        let (end, at) = cursor.sign(Sign::Semicolon, at)?;
+        return Ok((
+            Jump::Bare {
+                bare: Bare::Continue(word),
+                end,
+            },
+            at,
+        ));
+    }
+    let (word, at) = cursor.word(Word::Return, at)?;
+    if cursor.is_word(Word::Null, at) {
+        let (null, at) = cursor.word(Word::Null, at)?;
+        let (end, at) = cursor.sign(Sign::Semicolon, at)?;
+        return Ok((
+            Jump::Bare {
+                bare: Bare::ReturnNull { at: word, null },
+                end,
+            },
+            at,
+        ));
+    }
+    if cursor.is_sign(Sign::Semicolon, at) {
+        let (end, at) = cursor.sign(Sign::Semicolon, at)?;
+        return Ok((
+            Jump::Bare {
+                bare: Bare::Return(word),
+                end,
+            },
+            at,
+        ));
+    }
+    let (value, at) = value(cursor, alloc, depth, at)?;
+    let (end, at) = cursor.sign(Sign::Semicolon, at)?;
+    Ok((
+        Jump::ReturnValue {
+            at: word,
+            value,
+            end,
+        },
+        at,
+    ))
+}
+
+/// `{ cfix_leave(1); break; }`
+#[tactic(auto, unfolding(crate::specs::Jumps::bare_block_from))]
+pub(crate) fn bare_block_of(
+    cursor: &Cursor<'_>,
+    alloc: Global,
+    before: Spot,
+    at: usize,
+) -> Result<(BareBlock, usize), ReadFault>
+    ensures { Gives bare_block_view cursor.now.tokens result (bare_block_from before (drop at cursor.now.tokens)) }
+{
+    let (first, at) = op(cursor, at)?;
+    let (first_end, at) = cursor.sign(Sign::Semicolon, at)?;
+    let (ops, at) = ops(cursor, alloc, at)?;
+    let (bare, at) = bare_of(cursor, at)?;
+    let (end, at) = cursor.sign(Sign::Semicolon, at)?;
+    let (after, at) = cursor.sign(Sign::CloseBrace, at)?;
+    Ok((
+        BareBlock {
+            before,
+            first,
+            first_end,
+            ops,
+            bare,
+            end,
+            after,
+        },
+        at,
+    ))
+}
+
+/// `{ int cfix_value = value; cfix_leave(1); return cfix_value; }`, behind the `int`.
+#[tactic(auto, unfolding(crate::specs::Jumps::value_block_from))]
+pub(crate) fn value_block_of(
+    cursor: &Cursor<'_>,
+    alloc: Global,
+    depth: u32,
+    before: Spot,
+    int: Spot,
+    at: usize,
+) -> Result<(ValueBlock, usize), ReadFault>
+    ensures { Gives value_block_view cursor.now.tokens result (value_block_from depth before int (drop at cursor.now.tokens)) }
+{
+    let (name, at) = cursor.word(Word::Value, at)?;
+    let (set, at) = cursor.sign(Sign::Assign, at)?;
+    let (value, at) = value(cursor, alloc, depth, at)?;
+    let (value_end, at) = cursor.sign(Sign::Semicolon, at)?;
+    let (first, at) = op(cursor, at)?;
+    let (first_end, at) = cursor.sign(Sign::Semicolon, at)?;
+    let (ops, at) = ops(cursor, alloc, at)?;
+    let (word, at) = cursor.word(Word::Return, at)?;
+    let (returned, at) = cursor.word(Word::Value, at)?;
+    let (end, at) = cursor.sign(Sign::Semicolon, at)?;
+    let (after, at) = cursor.sign(Sign::CloseBrace, at)?;
+    Ok((
+        ValueBlock {
+            before,
+            int,
+            name,
+            set,
+            value,
+            value_end,
+            first,
+            first_end,
+            ops,
+            at: word,
+            returned,
+            end,
+            after,
+        },
+        at,
+    ))
+}
