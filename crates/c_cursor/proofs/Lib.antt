@@ -3,3 +3,4 @@ pub mod Exits
 pub mod Looks
 pub mod Loops
 pub mod Same
+pub mod Known

@@ -1,8 +1,9 @@
 ghost use Rattle.std.specs.Prelude.{◌≡◌, ◌≤◌, ◌<◌, ◌+◌, ◌++◌, ◌∷◌, [], length, drop, map, IfOk, OnOk};
-ghost use Rattle.c_grammar.specs.Reader.{begins, size};
+ghost use Rattle.c_grammar.specs.Reader.{begins, one_of, size};
 ghost use Rattle.c_grammar.specs.Read.{is_word, is_sign, is_name, is_number, read_word, read_sign, read_ident, read_numeral, read_text};
-ghost use Rattle.c_raw.specs.Tokens.{ident_view, numeral_view, text_view};
-ghost use Rattle.c_cursor.specs.Seen.{seen, look_at, number_at, spot_at, Next};
+ghost use Rattle.c_raw.specs.Tokens.{ident_view, numeral_view, text_view, kind_view, token_view};
+ghost use Rattle.c_grammar.specs.Spelling.{word_kind, sign_kind};
+ghost use Rattle.c_cursor.specs.Seen.{kind_of, seen, look_of, look_at, number_at, spot_at, Next};
 ghost use Rattle.c_cursor.specs.Marks.{marked};
 ghost use Rattle.c_cursor.specs.Gives.{Gives};
 
@@ -10,7 +11,7 @@ use crate::fault::ReadFault;
 use crate::look::{Look, kind_look};
 use c_grammar::{Sign, Word};
 use c_lex::{Kind, Tokens};
-use c_raw::{Ident, Numeral, Text};
+use c_raw::{Ident, Kind as CopiedKind, Numeral, Text, Token};
 use cfix_base::{List, NoMemory, Spot};
 use std::alloc::Global;
 use std::marker::Model;
@@ -213,6 +214,19 @@ impl<'a> Cursor<'a> {
         }
     }
 
+    /// Any token, with a copy of what it carries.
+    pub fn token(&self, alloc: Global, at: usize) -> Result<(Token, usize), ReadFault>
+        ensures { Gives token_view self.now.tokens result (one_of (λ t. Some t) (drop at self.now.tokens)) }
+    {
+        if at >= self.tokens.len() {
+            return Err(ReadFault::Unexpected(at));
+        }
+        let token = self.tokens.at(at);
+        let kind = kind_copy(alloc, &token.kind)?;
+        let spot = token.spot;
+        Ok((Token { kind, spot }, at + 1))
+    }
+
     /// The number of tokens from this place on.
     pub fn left(&self, at: usize) -> usize
         ensures { result ≡ size (drop at self.now.tokens) }
@@ -225,4 +239,36 @@ fn copied(alloc: Global, bytes: &List<u8>) -> Result<List<u8>, NoMemory>
     ensures { IfOk result (λ copy. copy ≡ bytes.now) }
 {
     Ok(List::from_vec(Vec::from_slice(alloc, bytes.as_slice())?))
+}
+
+fn word_copy(alloc: Global, text: &List<u8>, look: Look) -> Result<CopiedKind, NoMemory>
+    requires { look ≡ look_of (word_kind text.now) }
+    ensures { IfOk result (λ copy. kind_view copy ≡ word_kind text.now) }
+{
+    match look {
+        Look::Word(word) => Ok(CopiedKind::Word(word)),
+        _ => Ok(CopiedKind::Other(copied(alloc, text)?)),
+    }
+}
+
+fn sign_copy(alloc: Global, text: &List<u8>, look: Look) -> Result<CopiedKind, NoMemory>
+    requires { look ≡ look_of (sign_kind text.now) }
+    ensures { IfOk result (λ copy. kind_view copy ≡ sign_kind text.now) }
+{
+    match look {
+        Look::Sign(sign) => Ok(CopiedKind::Sign(sign)),
+        _ => Ok(CopiedKind::Other(copied(alloc, text)?)),
+    }
+}
+
+fn kind_copy(alloc: Global, kind: &Kind) -> Result<CopiedKind, NoMemory>
+    ensures { IfOk result (λ copy. kind_view copy ≡ kind_of kind.now) }
+{
+    match kind {
+        Kind::Name(text) => Ok(CopiedKind::Name(copied(alloc, text)?)),
+        Kind::Word(text) => word_copy(alloc, text, kind_look(kind)),
+        Kind::Number(value) => Ok(CopiedKind::Number(*value)),
+        Kind::Quoted(bytes) => Ok(CopiedKind::Quoted(copied(alloc, bytes)?)),
+        Kind::Sign(text) => sign_copy(alloc, text, kind_look(kind)),
+    }
 }
