@@ -9,6 +9,8 @@ mod notes;
 mod scope;
 mod sizes;
 mod table;
+#[cfg(test)]
+mod tests;
 mod uses;
 
 pub use kind::VarKind;

@@ -1,0 +1,8 @@
+use Rattle.std.proofs.Common.{◌≡◌, drop}
+use Rattle.c_raw.specs.Ops.{more_ops_view}
+use Rattle.c_names.specs.Faults.{noted_all}
+use Rattle.c_names.specs.Simples.{more_ops_faults}
+use Rattle.c_body.proofs.ops.note_more_ops.Given as goal
+
+abbrev pub invariant-loop-next : goal.invariant-loop-next
+invariant-loop-next l = noted_all l.least (more_ops_faults (more_ops_view (drop l.next-index l.raw))) ≡ noted_all l.initial.least (more_ops_faults (more_ops_view l.raw))
