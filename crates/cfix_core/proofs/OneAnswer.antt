@@ -1,16 +1,16 @@
 -- A report has one answer: it is bound to one thing, or refused by one rule.
-use Rattle.std.proofs.Common.{◌≡◌, ◌⊎◌, inl, inr, Bool, true, false, not, ◌&&◌, ◌==◌, IsTrue, List, Option, Some, None, Result, Ok, Err, subst, ap, sym, ◌∙◌, refl}
+use Rattle.std.proofs.Common.{◌≡◌, inl, inr, Bool, true, false, not, ◌&&◌, ◌==◌, Option, Some, None, Ok, Err, subst, ap, sym, ◌∙◌}
 use Rattle.std.proofs.lemmas.Bool.{and_parts, false≢true}
 use Rattle.c_prog.specs.declared.access_item.AccessItem.{AccessItem}
 use Rattle.c_prog.specs.Lines.{SourceTree}
 use Rattle.plan_types.specs.declared.bound.Atom.{Atom}
 use Rattle.plan_types.specs.declared.bound.Bound.{Bound}
 use Rattle.report_bind.specs.declared.fault.BindFault.{BindFault}
-use Rattle.report_bind.specs.declared.fault.BindFault.TheVariants.{NoMemory, NoSite, StackBroken, NotRoot, NoPath, MaybeAccess, OrderCycle}
+use Rattle.report_bind.specs.declared.fault.BindFault.TheVariants.{NoSite, StackBroken, NoPath}
 use Rattle.report_bind.specs.declared.fault.Role.TheVariants.{P, C, R}
 use Rattle.report_bind.specs.declared.found.Sites.{Sites}
 use Rattle.report_bind.specs.declared.found.Stack.{Stack}
-use Rattle.report_bind.specs.Binds.{Answer, is_empty, is_stacked, ByRegion, ByRoot, ByOutermost, ByStacks, BySites, IsAnswer, Binds, Refuses, IsAtomicity}
+use Rattle.report_bind.specs.Binds.{Answer, is_empty, is_stacked, ByRegion, ByRoot, ByOutermost, ByStacks, BySites, Binds, Refuses, IsAtomicity}
 use Rattle.report_bind.specs.Places.{atom_of}
 use Rattle.report_bind.specs.Sites.{site_of}
 use Rattle.report_bind.specs.Stacks.{stack_of}

@@ -6,12 +6,10 @@ use Rattle.report_json.specs.declared.fault.ReportFault.TheVariants as fault
 use Rattle.report_json.specs.declared.report.Report.{Report}
 use Rattle.report_json.specs.Reading.{SpellsReports, ExplainsReportFault}
 use Rattle.report_json.proofs.Unique.{reads, bad_json, outer_shape, too_many, report_shape}
-use Rattle.report_bind.specs.Binds.{Binds}
 use Rattle.first_form.specs.Spelled.{spelled}
 use Rattle.cfix_core.specs.OneReport.{only_report}
-use Rattle.cfix_core.specs.Repair.{IsSource, NoSource, IsReport, OtherReports, Reads, in_one_visit, Visits, OtherVisits, refusal_for, Breaks, Unbound, refusal_of, Faulty, Wrong, RefusesReports, RefusesReport, RefusedBy, IsAccepted, Repaired}
+use Rattle.cfix_core.specs.Repair.{IsSource, IsReport, OtherReports, Reads, in_one_visit, Visits, OtherVisits, refusal_for, Breaks, Unbound, refusal_of, Wrong, RefusedBy, IsAccepted, Repaired}
 use Rattle.cfix_core.specs.declared.patch.Refusal.{Refusal}
-use Rattle.cfix_core.specs.declared.patch.Refusal.TheVariants.{Source, Reports, OtherMode}
 use Rattle.cfix_core.proofs.OneAnswer.{one_bound, one_fault, bound_refused}
 
 none_some : {X : Type 0} (o : Option X) (x : X) → o ≡ None → o ≡ Some x → ⊥

@@ -1,6 +1,5 @@
 -- What is written for a program of the first form and a report.
 use Rattle.std.proofs.Common.{◌≡◌, ◌<◌, ◌⊎◌, inl, inr, ℕ, Bool, true, false, List, [], ◌∷◌, length, slice_get, Option, Some, None, IsSome, if◌then◌else◌, refl, sym, ap, subst, ◌∙◌, arith}
-use Rattle.std.proofs.lemmas.List.{length-map}
 use Rattle.cfix_base.specs.declared.access.AccessId.{AccessId}
 use Rattle.cfix_base.specs.declared.number.FnId.{FnId}
 use Rattle.cfix_base.specs.declared.number.NodeId.{NodeId}
@@ -8,7 +7,7 @@ use Rattle.c_prog.specs.declared.tree.Tree.{Tree}
 use Rattle.c_prog.specs.Accesses.{numbered, touches_of}
 use Rattle.c_prog.specs.Lines.{SourceTree}
 use Rattle.c_prog.specs.Nodes.{tree_nodes}
-use Rattle.c_prog.specs.Order.{Node, node_at, tree_order}
+use Rattle.c_prog.specs.Order.{Node, tree_order}
 use Rattle.c_prog.proofs.NodeLaws.{tree_order-length}
 use Rattle.c_print.specs.Text.Canonical.{canonical}
 use Rattle.call_graph.specs.declared.site.Site as call_module
@@ -23,20 +22,19 @@ use Rattle.report_bind.specs.declared.fault.BindFault.{BindFault}
 use Rattle.report_bind.specs.declared.fault.BindFault.TheVariants as unbound
 use Rattle.report_bind.specs.Binds.{Refuses}
 use Rattle.report_bind.specs.Fits.{IsAccess, IsCallPath, FitsAtom}
-use Rattle.report_bind.specs.Places.{start_of, item_at}
+use Rattle.report_bind.specs.Places.{start_of}
 use Rattle.report_json.specs.declared.report.Report.{Report}
 use Rattle.report_json.specs.Reading.{SpellsReports}
 use Rattle.first_form.specs.declared.plain.Plain.{Plain}
 use Rattle.first_form.specs.declared.region.Region.{Region}
-use Rattle.first_form.specs.Form.{is_first_form, plains_of, act_of, acts_of}
+use Rattle.first_form.specs.Form.{is_first_form, plains_of, acts_of}
 use Rattle.first_form.specs.Straight.{bare, guarded}
 use Rattle.first_form.proofs.FirstTrees.{first-is, nodes-first}
 use Rattle.cfix_core.specs.Patched.{IsPatched}
-use Rattle.cfix_core.specs.Repair.{IsSource, in_one_visit, OtherVisits, IsRepaired, Breaks, Unbound, IsBound, HasRefusal, failure_for, region_of_atom, region_of, RepairedFor, Repaired, RefusedWith, RefusedBy, FailsBy}
+use Rattle.cfix_core.specs.Repair.{IsSource, IsRepaired, Breaks, Unbound, IsBound, failure_for, region_of_atom, region_of, RepairedFor, Repaired, RefusedWith, RefusedBy, FailsBy}
 use Rattle.cfix_core.specs.declared.patch.Failure.{Failure}
 use Rattle.cfix_core.specs.declared.patch.Failure.TheVariants as failure
 use Rattle.cfix_core.specs.declared.patch.Refusal.TheVariants.{OtherMode}
-use Rattle.cfix_core.proofs.OneAnswer.{bare_refusal}
 use Rattle.cfix_core.proofs.StraightPlan.{straight_is_patched}
 use Rattle.cfix_core.proofs.Strip.{strip_guarded}
 

@@ -1,5 +1,5 @@
 -- The patched program of a straight main.
-use Rattle.std.proofs.Common.{◌≡◌, ◌≢◌, ℕ, zero, suc, ◌+◌, ◌-◌, ◌<◌, ◌≤◌, Bool, true, false, not, ◌&&◌, ◌||◌, eqb, List, [], ◌∷◌, ◌++◌, map, length, Option, Some, None, inl, inr, ap, sym, ◌∙◌, refl, arith}
+use Rattle.std.proofs.Common.{◌≡◌, ◌≢◌, ℕ, zero, suc, ◌+◌, ◌-◌, ◌<◌, ◌≤◌, Bool, true, false, not, ◌&&◌, ◌||◌, eqb, List, [], ◌∷◌, ◌++◌, map, length, Some, None, inl, inr, ap, sym, ◌∙◌, refl, arith}
 use Rattle.std.specs.List.{range_with_len}
 use Rattle.std.proofs.lemmas.Bool.{cases_lt}
 use Rattle.std.proofs.lemmas.Bool.Decides.{eqb_tells}
@@ -14,12 +14,12 @@ use Rattle.c_prog.specs.declared.global.Global as global_module
 use Rattle.c_prog.specs.declared.stmt.Stmt.{Stmt}
 use Rattle.c_prog.specs.declared.stmt.Stmt.TheVariants as stmt
 use Rattle.c_prog.specs.declared.tree.Tree.{Tree}
-use Rattle.flow_graph.specs.Flow.{Part, Edge, parts_of, size_of, first_of, node, fn_id, body_ways, edges_of, start_way}
+use Rattle.flow_graph.specs.Flow.{Part, Edge, parts_of, size_of, first_of, node, fn_id, body_ways, edges_of}
 use Rattle.plan_types.specs.Sets.{is_in}
-use Rattle.first_form.specs.Straight.{with_ops, main_with, straight, bare, crossing, in_region, inside, behind, guarded}
+use Rattle.first_form.specs.Straight.{with_ops, main_with, straight, bare, crossing, in_region, behind, guarded}
 use Rattle.cfix_core.specs.Operations.{Plan, within, one_if, edge_ops, lock}
 use Rattle.cfix_core.specs.Patched.{placed, build_all, place_ops, ops_of_edge, with_plan}
-use Rattle.cfix_core.proofs.StraightFlow.{placed-Simple, plain_parts, straight_parts, straight_size, straight_edge, straight_edges, straight_found}
+use Rattle.cfix_core.proofs.StraightFlow.{placed-Simple, plain_parts, straight_parts, straight_size, straight_edge, straight_found}
 
 -- the nodes of a region among n nodes
 abbrev pub region_nodes : ℕ → ℕ → ℕ → List Bool

@@ -1,6 +1,6 @@
 -- The plan of one atomicity report in one visit, in a straight main.
-use Rattle.std.proofs.Common.{◌≡◌, ◌↔◌, ℕ, zero, suc, ◌+◌, ◌<◌, Bool, true, false, ◌||◌, eqb, List, [], ◌∷◌, length, Some, inl, inr, ap, sym, ◌∙◌, refl, subst, arith}
-use Rattle.std.specs.List.{All, Contains, slice_index_or}
+use Rattle.std.proofs.Common.{◌≡◌, ℕ, zero, suc, ◌<◌, Bool, true, false, ◌||◌, eqb, List, [], ◌∷◌, length, Some, inl, inr, ap, sym, ◌∙◌, refl, subst, arith}
+use Rattle.std.specs.List.{Contains, slice_index_or}
 use Rattle.std.proofs.lemmas.Bool.Decides.{eqb_tells}
 use Rattle.std.proofs.lemmas.Bool.{eqb-true, eq-eqb, false≢true}
 use Rattle.std.proofs.lemmas.List.Elements.{All-nil, All-cons}
@@ -18,12 +18,11 @@ use Rattle.flow_graph.specs.Regions.{InRegion}
 use Rattle.plan_types.specs.declared.bound.Atom.{Atom}
 use Rattle.plan_types.specs.declared.bound.Bound.TheVariants as bound
 use Rattle.plan_types.specs.declared.class.Class.{Class}
-use Rattle.plan_types.specs.Classes.{AreJoined, Guards, guard_of, IsClass, AreClasses}
+use Rattle.plan_types.specs.Classes.{AreJoined, guard_of, IsClass, AreClasses}
 use Rattle.plan_types.specs.Sets.{IsIn}
-use Rattle.first_form.specs.Straight.{in_region, with_ops, bare, guarded}
+use Rattle.first_form.specs.Straight.{in_region, bare, guarded}
 use Rattle.first_form.proofs.Acts.{nodes-straight}
 use Rattle.cfix_core.specs.Bounds.{IsSetOf, InGuard}
-use Rattle.cfix_core.specs.Operations.{ClassPlan}
 use Rattle.cfix_core.specs.Patched.{IsClassPlan, IsPlan, IsPatched}
 use Rattle.cfix_core.proofs.StraightOps.{region_nodes, region_length, region_has, straight_plan, straight_patched}
 

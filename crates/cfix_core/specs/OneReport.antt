@@ -1,5 +1,5 @@
 -- The reports of the first form: exactly one atomicity report, without stacks.
-use Rattle.std.specs.Prelude.{Bool, true, false, ◌≡◌, ◌&&◌, List, [], ◌∷◌, Option, Some, None, if◌then◌else◌}
+use Rattle.std.specs.Prelude.{Bool, false, ◌&&◌, List, [], ◌∷◌, Option, Some, None, if◌then◌else◌}
 use Rattle.report_bind.specs.Binds.{is_empty}
 use Rattle.report_json.specs.declared.report.Report.{Report}
 use Rattle.report_json.specs.declared.report.Report.TheVariants.{Atomicity}

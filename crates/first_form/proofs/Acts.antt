@@ -1,12 +1,11 @@
 -- A straight program of `int` globals that begin with 0 is valid, with the operations round a region too.
-use Rattle.std.proofs.Common.{◌≡◌, ℕ, ◌+◌, ◌-◌, ◌^◌, ◌<◌, Bool, true, false, not, ◌&&◌, List, [], ◌∷◌, map, length, Option, subst, ap, sym, ◌∙◌, refl, arith}
+use Rattle.std.proofs.Common.{◌≡◌, ℕ, ◌+◌, ◌-◌, ◌^◌, ◌<◌, Bool, true, false, not, List, [], ◌∷◌, map, length, Option, subst, ap, sym, ◌∙◌, refl, arith}
 use Rattle.std.specs.List.{list_all, list_any}
 use Rattle.std.specs.Cmp.Derive.{both_true}
 use Rattle.std.proofs.lemmas.Bool.{and_parts}
 use Rattle.cfix_base.specs.declared.op.Op.{Op}
 use Rattle.c_prog.specs.declared.act.Act.{Act}
 use Rattle.c_prog.specs.declared.global.Global as global_struct
-use Rattle.c_prog.specs.declared.tree.Tree.{Tree}
 use Rattle.c_prog.specs.Nodes.{nodes_of, tree_nodes}
 use Rattle.c_prog.specs.Straight.{begins_with_zero, is_straight_act, is_straight_stmt, is_straight}
 use Rattle.c_prog.specs.Valid.{IsValid}

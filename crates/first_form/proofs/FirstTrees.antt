@@ -4,7 +4,6 @@ use Rattle.std.specs.List.{list_all, list_any, filter_map, cons_option}
 use Rattle.std.specs.Str.{bytes_eq}
 use Rattle.std.specs.Cmp.Derive.{both_true}
 use Rattle.std.proofs.lemmas.Bool.{and_parts, or_parts, not-true}
-use Rattle.std.proofs.lemmas.List.{append-nil}
 use Rattle.std.proofs.lemmas.List.Folds.{list_all-append, list_any-append}
 use Rattle.std.proofs.lemmas.Slice.Eq.{bytes_eq-Decides}
 use Rattle.cfix_base.specs.declared.number.OrderId.{OrderId}
@@ -16,7 +15,7 @@ use Rattle.c_prog.specs.declared.global.Global as global_struct
 use Rattle.c_prog.specs.declared.stmt.Stmt.{Stmt}
 use Rattle.c_prog.specs.declared.stmt.Stmt.TheVariants.{Simple}
 use Rattle.c_prog.specs.declared.tree.Tree.{Tree}
-use Rattle.c_prog.specs.Nodes.{nodes_of, tree_nodes}
+use Rattle.c_prog.specs.Nodes.{tree_nodes}
 use Rattle.c_prog.specs.Patched.{has_some}
 use Rattle.c_prog.specs.Straight.{begins_with_zero, is_straight_act}
 use Rattle.c_prog.specs.Valid.{IsValid}
@@ -25,10 +24,10 @@ use Rattle.c_prog.specs.Valid.Expressions.{is_main_name, is_int_kind}
 use Rattle.c_prog.specs.Valid.Functions.{are_declared_names, are_distinct, is_main}
 use Rattle.first_form.specs.declared.plain.Plain.{Plain}
 use Rattle.first_form.specs.declared.region.Region.{Region}
-use Rattle.first_form.specs.Form.{plain_of, is_plain, is_plain_main, is_only_main, is_first_form, first_body, plains_of, act_of, acts_of}
+use Rattle.first_form.specs.Form.{plain_of, is_plain, is_plain_main, is_only_main, is_first_form, plains_of, act_of, acts_of}
 use Rattle.first_form.specs.Straight.{with_ops, main_with, bare, guarded}
-use Rattle.first_form.proofs.Acts.{Fit, nodes-straight, valid-guarded}
-use Rattle.first_form.proofs.Forms.{Is, stmt-is}
+use Rattle.first_form.proofs.Acts.{nodes-straight, valid-guarded}
+use Rattle.first_form.proofs.Forms.{stmt-is}
 
 empty : {A : Type 0} (list : List A) → not (has_some list) ≡ true → list ≡ []
 empty [] h = refl

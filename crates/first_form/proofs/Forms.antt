@@ -1,5 +1,5 @@
 -- What the first form of a program gives, variant by variant, and what a statement of the first form is.
-use Rattle.std.proofs.Common.{◌≡◌, ℕ, zero, suc, ℤ, Bool, true, false, ◌&&◌, nat_lt, List, [], ◌∷◌, length, slice_get, Option, Some, None, is_some, is_none, option_and_then, option_map, if◌then◌else◌, subst, ap, sym, ◌∙◌, refl, arith}
+use Rattle.std.proofs.Common.{◌≡◌, ℕ, zero, suc, ℤ, true, nat_lt, List, [], ◌∷◌, length, slice_get, Option, Some, None, is_some, option_map, if◌then◌else◌, subst, ap, sym, ◌∙◌, refl, arith}
 use Rattle.std.specs.Cmp.Derive.{both_true}
 use Rattle.cfix_base.specs.declared.number.VarId.{VarId}
 use Rattle.cfix_base.specs.declared.op.Op.{Op}
@@ -11,7 +11,7 @@ use Rattle.c_prog.specs.declared.expr.Expr.{Expr}
 use Rattle.c_prog.specs.declared.expr.Expr.TheVariants as expr
 use Rattle.c_prog.specs.declared.expr.Expr.TheOpen.{Expr-F}
 use Rattle.c_prog.specs.declared.expr.Expr.TheViews.{out-Expr, roll-Expr, roll-out-Expr}
-use Rattle.c_prog.specs.declared.expr.Expr.TheFolds.{fold-roll-Expr, fold_out-Expr, fold_out-Target, fold-Target, map-Expr}
+use Rattle.c_prog.specs.declared.expr.Expr.TheFolds.{fold_out-Expr, fold_out-Target, fold-Target, map-Expr}
 use Rattle.c_prog.specs.declared.expr.Target.{Target}
 use Rattle.c_prog.specs.declared.expr.Var.{Var}
 use Rattle.c_prog.specs.declared.expr.Var.TheVariants.{Global, Local}
@@ -29,7 +29,7 @@ use Rattle.first_form.specs.declared.plain.Given.{Given}
 use Rattle.first_form.specs.declared.plain.Given.TheVariants as given
 use Rattle.first_form.specs.declared.plain.Plain.{Plain}
 use Rattle.first_form.specs.declared.plain.Plain.TheVariants as plain
-use Rattle.first_form.specs.Form.{one_of, without_index, scalar, number_given, given_level, given_target, given_by, assigned, assigned_by, plain_act, plain_level, plain_of, target_of, act_of}
+use Rattle.first_form.specs.Form.{without_index, scalar, number_given, given_level, given_target, given_by, assigned, assigned_by, plain_act, plain_level, plain_of, target_of, act_of}
 use Rattle.first_form.proofs.Sound.{some-is, if-some, bind-some}
 
 scalar-at : (count : ℕ) (v : Var) (i : Option Expr)

@@ -1,5 +1,5 @@
 -- The lines of a spelling are those of its program, which is valid.
-use Rattle.std.proofs.Common.{◌≡◌, ℕ, ℤ, pos, ◌+◌, ◌-◌, ◌^◌, ◌<◌, ◌≤◌, Bool, true, false, ◌&&◌, nat_lt, List, [], ◌∷◌, ◌++◌, map, length, None, subst, ap, sym, ◌∙◌, refl, arith}
+use Rattle.std.proofs.Common.{◌≡◌, ℕ, ◌+◌, ◌-◌, true, false, nat_lt, List, [], ◌∷◌, ◌++◌, map, length, None, subst, ap, sym, ◌∙◌, refl, arith}
 use Rattle.std.specs.List.{list_all, list_any}
 use Rattle.std.specs.Cmp.Derive.{both_true}
 use Rattle.std.proofs.lemmas.Bool.{and_parts}
@@ -12,7 +12,7 @@ use Rattle.c_prog.specs.declared.global.Global as global_struct
 use Rattle.c_prog.specs.Accesses.{touches, touched, numbered}
 use Rattle.c_prog.specs.Calls.{callee}
 use Rattle.c_prog.specs.Lines.{IsLined, InOrder, accesses_from, calls_from, if_call}
-use Rattle.c_prog.specs.Order.{Node, act, order_of}
+use Rattle.c_prog.specs.Order.{act, order_of}
 use Rattle.c_prog.specs.Rising.{keys}
 use Rattle.c_prog.specs.Straight.{begins_with_zero, is_straight_act}
 use Rattle.c_prog.specs.Valid.{IsValid}
@@ -30,7 +30,7 @@ use Rattle.first_form.specs.Form.{target_of, act_of, acts_of}
 use Rattle.first_form.specs.Sound.{is_sound, IsSound}
 use Rattle.first_form.specs.Spelled.{plain_said, said_lines, lined, lined_from, zero_global, source_of}
 use Rattle.first_form.specs.Straight.{with_ops}
-use Rattle.first_form.proofs.Acts.{Fit, valid-guarded}
+use Rattle.first_form.proofs.Acts.{valid-guarded}
 use Rattle.first_form.proofs.Forms.{there}
 
 -- ---- the accesses of a statement

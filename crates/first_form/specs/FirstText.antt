@@ -1,6 +1,6 @@
 -- The sources of the first form: declarations `int NAME;`, then `int main(void) {`, then statements
 -- `NAME = NUMBER;`, `NAME = NAME;` or `NAME++;`, then `}`, with blanks between tokens and no comments.
-use Rattle.std.specs.Prelude.{ℕ, pos, Bool, not, ◌&&◌, eqb, List, [], ◌∷◌, length, codes, Option, Some, None, option_and_then, if◌then◌else◌}
+use Rattle.std.specs.Prelude.{ℕ, pos, Bool, not, ◌&&◌, eqb, List, length, codes, Option, Some, None, option_and_then, if◌then◌else◌}
 use Rattle.std.specs.List.{list_any, position}
 use Rattle.std.specs.Str.{bytes_eq}
 use Rattle.c_prog.specs.Valid.Expressions.{is_main_name}

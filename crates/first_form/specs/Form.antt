@@ -1,6 +1,6 @@
 -- The first form of a program: no operation and no start, main alone, globals that are `int` and begin
 -- with 0, and statements that set a global to a number or to a global, or add 1 to one.
-use Rattle.std.specs.Prelude.{ℕ, ℤ, Bool, true, false, not, ◌&&◌, nat_lt, List, [], ◌∷◌, length, map, Option, Some, None, option_and_then, option_map, is_some, if◌then◌else◌}
+use Rattle.std.specs.Prelude.{ℕ, ℤ, Bool, false, not, ◌&&◌, nat_lt, List, [], ◌∷◌, length, map, Option, Some, None, option_and_then, option_map, is_some, if◌then◌else◌}
 use Rattle.std.specs.List.{list_all, filter_map}
 use Rattle.cfix_base.specs.declared.number.VarId.{VarId}
 use Rattle.c_prog.specs.declared.act.Act.{Act}

@@ -3,7 +3,7 @@ use Rattle.std.specs.Prelude.{ℕ, ◌+◌, pos, List, [], ◌∷◌, ◌++◌, 
 use Rattle.cfix_base.specs.declared.access.AccessId.{AccessId}
 use Rattle.c_prog.specs.declared.global.Global as global_module
 use Rattle.c_prog.specs.declared.global.GlobalKind.TheVariants.{Int}
-use Rattle.c_prog.specs.Lines.{LineTable, SourceTree}
+use Rattle.c_prog.specs.Lines.{SourceTree}
 use Rattle.first_form.specs.declared.said.Said.{Said}
 use Rattle.first_form.specs.declared.said.Said.TheVariants as said
 use Rattle.first_form.specs.declared.plain.Plain.{Plain}

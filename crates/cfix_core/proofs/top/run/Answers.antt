@@ -1,4 +1,4 @@
-use Rattle.std.proofs.Common.{◌≡◌, ◌⊎◌, ℕ, ◌<◌, sym, subst, ◌∙◌, arith}
+use Rattle.std.proofs.Common.{◌≡◌, ◌⊎◌, ℕ, sym, subst, ◌∙◌, arith}
 use Rattle.cfix_core.specs.Words.{texts, asked_of, request_of}
 use Rattle.cfix_core.specs.Answers.{Told}
 use Rattle.cfix_core.proofs.Causes.{exact_stop, exact_done, complete, refused_stop}

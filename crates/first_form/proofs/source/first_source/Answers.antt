@@ -1,4 +1,4 @@
-use Rattle.std.proofs.Common.{◌≡◌, Some, option_map, IfSome, sym, ◌∙◌, ap, subst, rules}
+use Rattle.std.proofs.Common.{◌≡◌, Some, option_map, IfSome, sym, ◌∙◌, ap, subst}
 use Rattle.first_form.specs.FirstText.{first_form}
 use Rattle.first_form.specs.Seen.{seen_spelling, IsSmall}
 use Rattle.first_form.proofs.Sound.{sound-form}

@@ -1,4 +1,4 @@
-use Rattle.std.proofs.Common.{◌≡◌, ℕ, List, [], map, None, sym, ◌∙◌, ap, subst, rules}
+use Rattle.std.proofs.Common.{◌≡◌, ℕ, List, map, None, sym, ◌∙◌, ap, subst, rules}
 use Rattle.cfix_base.specs.declared.access.AccessId.{AccessId}
 use Rattle.cfix_base.specs.declared.number.NodeId.{NodeId}
 use Rattle.c_prog.specs.Lines.{LineTable, SourceTree, InOrder, IsLined}
