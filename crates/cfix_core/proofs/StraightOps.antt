@@ -16,7 +16,7 @@ use Rattle.c_prog.specs.declared.stmt.Stmt.TheVariants as stmt
 use Rattle.c_prog.specs.declared.tree.Tree.{Tree}
 use Rattle.flow_graph.specs.Flow.{Part, Edge, parts_of, size_of, first_of, node, fn_id, body_ways, edges_of}
 use Rattle.plan_types.specs.Sets.{is_in}
-use Rattle.first_form.specs.Straight.{with_ops, main_with, straight, bare, crossing, in_region, behind, guarded}
+use Rattle.first_form.specs.Straight.{with_ops, main_with, bare, crossing, in_region, guarded}
 use Rattle.cfix_core.specs.Operations.{Plan, within, one_if, edge_ops, lock}
 use Rattle.cfix_core.specs.Patched.{placed, build_all, place_ops, ops_of_edge, with_plan}
 use Rattle.cfix_core.proofs.StraightFlow.{placed-Simple, plain_parts, straight_parts, straight_size, straight_edge, straight_found}
