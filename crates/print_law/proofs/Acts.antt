@@ -66,7 +66,7 @@ argument-told-by false names e d spots =
     ap (λ z. sign s.OpenParen (here spots) ∷ word w.Void (here (later spots)) ∷ sign s.Star (here (later (later spots))) ∷ sign s.CloseParen (here (later (later (later spots)))) ∷ z)
     (tokens-placed 0 (g.long_pieces d long ++ g.pieces d tree)
     ∙ ap (λ z. sign s.OpenParen (here (later (later (later (later spots))))) ∷ word w.Long (here (later (later (later (later (later spots))))))
-      ∷ sign s.CloseParen (here (later (later (later (later (later (later spots))))))) ∷ z)
+    ∷ sign s.CloseParen (here (later (later (later (later (later (later spots))))))) ∷ z)
     (operand-told names 7 (plain e) d behind))
 
 pub argument-told : (names : Names) (e : Expr) (d : ℕ) (spots : List Spot) → tokens (m.thread_arg_marks d (argument_tree names e spots)) ≡ spotted spots (argument_items names e)

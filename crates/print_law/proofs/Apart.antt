@@ -115,7 +115,6 @@ open-fits x [] next o b f = absurd (true≢false (sym b))
 open-fits x (Gap ∷ items) next o b f = absurd (true≢false (sym b))
 open-fits x (Is k ∷ items) next o b f = both _ _ (opens-so x k o b) f
 
-
 close-paren : (text : List ℕ) → goes_on 41 text ≡ false
 close-paren [] = refl
 close-paren (byte ∷ text) = refl

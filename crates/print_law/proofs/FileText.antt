@@ -165,7 +165,7 @@ function-text tree fn h =
     let body = plain_body fn.body in
     let items = head_items fn.kind fn.name fn.params in
     let inner : statements.body_lines names fn.body ≡ texts (stmts_lines names body) =
-        ap (statements.body_lines names) (sym (plain_body-up fn.body)) ∙ stmts-text names body h in
+    ap (statements.body_lines names) (sym (plain_body-up fn.body)) ∙ stmts-text names body h in
     ap (λ z. pieces.braced (z ++ codes " ") (op_lines fn.start ++ statements.body_lines names fn.body)) (head-text fn.kind fn.name fn.params)
     ∙ ap (λ z. pieces.braced z (op_lines fn.start ++ statements.body_lines names fn.body)) (sym (spelled-append items (Gap ∷ [])))
     ∙ ap (λ z. pieces.braced (spelled (items ++ Gap ∷ [])) (z ++ statements.body_lines names fn.body)) (ops-text fn.start)
@@ -190,15 +190,15 @@ tree-text tree h =
     let third = spaced_parts (prototype_parts tree.functions) ++ last in
     let second = spaced_parts (global_parts tree.globals) ++ third in
     let a : pieces.spaced (print.header_lines tree) ≡ told (spaced_parts (header_parts tree)) =
-        ap pieces.spaced (header-text tree) ∙ sym (told-spaced (header_parts tree) (header-full-by (tree_patched tree) tree.starts)) in
+    ap pieces.spaced (header-text tree) ∙ sym (told-spaced (header_parts tree) (header-full-by (tree_patched tree) tree.starts)) in
     let b : pieces.spaced (map print.global_line tree.globals) ≡ told (spaced_parts (global_parts tree.globals)) =
-        ap pieces.spaced (globals-text tree.globals) ∙ sym (told-spaced (global_parts tree.globals) (globals-full tree.globals)) in
+    ap pieces.spaced (globals-text tree.globals) ∙ sym (told-spaced (global_parts tree.globals) (globals-full tree.globals)) in
     let c : pieces.spaced (joined (map print.prototype_lines tree.functions)) ≡ told (spaced_parts (prototype_parts tree.functions)) =
-        ap pieces.spaced (prototypes-text tree.functions) ∙ sym (told-spaced (prototype_parts tree.functions) (prototypes-full tree.functions)) in
+    ap pieces.spaced (prototypes-text tree.functions) ∙ sym (told-spaced (prototype_parts tree.functions) (prototypes-full tree.functions)) in
     let d = functions-text tree tree.functions h in
     ap pieces.text_of
     (group (pieces.spaced (print.header_lines tree)) (pieces.spaced (map print.global_line tree.globals)) (pieces.spaced (joined (map print.prototype_lines tree.functions)))
-      (pieces.apart (map (print.function_lines tree) tree.functions))
+    (pieces.apart (map (print.function_lines tree) tree.functions))
     ∙ ap (λ z. z ++ (pieces.spaced (map print.global_line tree.globals) ++ (pieces.spaced (joined (map print.prototype_lines tree.functions)) ++ pieces.apart (map (print.function_lines tree) tree.functions)))) a
     ∙ ap (λ z. told (spaced_parts (header_parts tree)) ++ (z ++ (pieces.spaced (joined (map print.prototype_lines tree.functions)) ++ pieces.apart (map (print.function_lines tree) tree.functions)))) b
     ∙ ap (λ z. told (spaced_parts (header_parts tree)) ++ (told (spaced_parts (global_parts tree.globals)) ++ (z ++ pieces.apart (map (print.function_lines tree) tree.functions)))) c

@@ -101,7 +101,7 @@ directive line tree told fit quiet good at front = record {
   ends = λ before rest n e.
       let nil = append-nil (line_spots before line) in
       let here_is : f.line_of (tree ((line_spots before line ++ []) ++ rest)) ≡ Some (line_behind before) =
-          ap (λ (z : List Spot). f.line_of (tree (z ++ rest))) nil ∙ at (line_spots before line ++ rest) ∙ ap (λ (z : Spot). Some z.line) (front before rest) in
+      ap (λ (z : List Spot). f.line_of (tree (z ++ rest))) nil ∙ at (line_spots before line ++ rest) ∙ ap (λ (z : Spot). Some z.line) (front before rest) in
       let same : n ≡ line_behind before = same-some n (line_behind before) (sym e ∙ here_is) in
       let none = quiet-text line quiet in
       let c = counted before ((spelled line ++ 10 ∷ []) ++ []) in

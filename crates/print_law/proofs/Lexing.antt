@@ -290,9 +290,11 @@ kind-read (IsNumber n) h =
     subst Read (ap IsNumber (sym r.1))
     (record {
       known = numeral-known r.0 (fmt.decimal r.0) w;
-      counts =
-          (k.Number (pos (decimal (fmt.decimal r.0))), pick (is_number (fmt.decimal r.0)) _ _ (number-read r.0 (fmt.decimal r.0) w r.2),
-          ap (λ z. IsNumber (pos z)) w.value);
+      counts = (
+        k.Number (pos (decimal (fmt.decimal r.0))),
+        pick (is_number (fmt.decimal r.0)) _ _ (number-read r.0 (fmt.decimal r.0) w r.2),
+        ap (λ z. IsNumber (pos z)) w.value,
+      );
     })
 kind-read (IsQuoted bytes) h = record { known = quote-known bytes h; counts = (k.Quoted bytes, ap (λ z. Counts (k.Quoted z)) (quote-value bytes), refl) }
 kind-read (IsWord x) h =

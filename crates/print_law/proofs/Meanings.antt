@@ -118,7 +118,7 @@ local-found scope number l e =
     let named : is_named l.name other.0 ≡ true = find-is (is_named l.name) (visible scope) other.0 other.1 in
     let name : l.name ≡ other.0.name = bytes-same l.name other.0.name named in
     let passes : p other.0 ≡ true =
-        both _ _ other.2 (ap (λ z. is_numbered number (local_named z scope)) (sym name) ∙ parts.1) in
+    both _ _ other.2 (ap (λ z. is_numbered number (local_named z scope)) (sym name) ∙ parts.1) in
     let same : l ≡ other.0 = find-same p (is_named l.name) (visible scope) l other.0 e other.1 (bytes-refl l.name) passes in
     (other.1 ∙ ap Some (sym same), eqb-true l.number number parts.0)
 
@@ -192,11 +192,13 @@ module _ (names : Names) (known : n.Names) (file : File) (facts : FileFacts name
   -- a function whose name means it
   pub function-use : (id : FnId) (f : Signature) → function_here file scope id ≡ Some f
       → (name_at names.functions id.number ≡ f.name) × (is_declared_name (name_at names.functions id.number) ≡ true)
-        × (n.use_of known inner (name_at names.functions id.number) ≡ n.IsFunction id.number f.kind f.params)
+      × (n.use_of known inner (name_at names.functions id.number) ≡ n.IsFunction id.number f.kind f.params)
   function-use id f e =
-      let g = function-by id.number (slice_get file.functions id.number) f refl e in
-      (g.1.named, ap is_declared_name g.1.named ∙ g.1.declared,
-      ap (n.use_of known inner) g.1.named ∙ ap (λ z. n.local_use z (n.file_use (known f.name).first)) (unhidden f.name g.0) ∙ ap n.file_use g.1.first)
+      let g = function-by id.number (slice_get file.functions id.number) f refl e in (
+        g.1.named,
+        ap is_declared_name g.1.named ∙ g.1.declared,
+        ap (n.use_of known inner) g.1.named ∙ ap (λ z. n.local_use z (n.file_use (known f.name).first)) (unhidden f.name g.0) ∙ ap n.file_use g.1.first,
+      )
 
 -- declared names
 

@@ -159,8 +159,8 @@ cond_tree names cond spots = cond_by names cond.test cond.on_true cond.on_false 
 -- a test in parentheses, and a guard behind it
 guarded-told : (x : Sign) (n : ℕ) (test : List Item) (op : Op) (more : List Op) (d : ℕ) (spots : List Spot) (ps : List g.Piece) → bare ps ≡ spotted (later spots) test
     → bare (g.plain (sign s.OpenParen (here spots)) (suc d) ∷ (ps ++ (g.plain (sign s.CloseParen (here (behind test spots))) (suc d) ∷ ((sign x (here (later (behind test spots))), d, true)
-      ∷ (g.plain (sign s.OpenParen (here (later (later (behind test spots))))) (suc d) ∷ (c.guard_pieces n (suc d) (guard_tree op more (in_guard test spots))
-      ++ g.plain (sign s.CloseParen (here (after (in_guard test spots) (guard_items n op more)))) (suc d) ∷ []))))))
+    ∷ (g.plain (sign s.OpenParen (here (later (later (behind test spots))))) (suc d) ∷ (c.guard_pieces n (suc d) (guard_tree op more (in_guard test spots))
+    ++ g.plain (sign s.CloseParen (here (after (in_guard test spots) (guard_items n op more)))) (suc d) ∷ []))))))
     ≡ spotted spots (guarded_items x n test (op ∷ more))
 guarded-told x n test op more d spots ps h =
     ap (λ z. sign s.OpenParen (here spots) ∷ z)

@@ -195,7 +195,7 @@ parts-good (One lines items tree ∷ more) l before =
     let rest = spots_of next (parts_lines more) in
     let split : spots_of before (lines ++ parts_lines more) ≡ spots_of before lines ++ rest = spots-append before lines (parts_lines more) in
     let passed : after (spots_of before lines ++ rest) items ≡ rest =
-        ap (beyond (spots_of before lines ++ rest)) (sym l.0.hold) ∙ beyond-lines before lines rest in
+    ap (beyond (spots_of before lines ++ rest)) (sym l.0.hold) ∙ beyond-lines before lines rest in
     let told : f.file_tokens (parts_tree more rest) ≡ marked rest (kinds (parts_items more)) = parts-told more l.1 rest in
     let enough : length (kinds (parts_items more)) ≡ length rest = ap length (sym (parts-hold more l.1)) ∙ lines-length next (parts_lines more) in
     ap (λ z. f.is_file (parts_tree (One lines items tree ∷ more) z)) split

@@ -355,13 +355,13 @@ valid-jump file around scope j ops v = ap (λ (z : Part). z.is_valid around scop
 
 pub valid-if : (file : File) (around : Around) (scope : Scope) (cond : Cond) (x y : Stmts) → (part_of file (up_stmt (If cond x y))).is_valid around scope ≡ true
     → (valid.is_valid_expr file scope cond.test ≡ true) × (all_valid (parts_of file (up_stmts x)) around (entered scope) ≡ true)
-      × (all_valid (parts_of file (up_stmts y)) around (entered (passed (counts (parts_of file (up_stmts x))) scope)) ≡ true)
+    × (all_valid (parts_of file (up_stmts y)) around (entered (passed (counts (parts_of file (up_stmts x))) scope)) ≡ true)
 valid-if file around scope cond x y v =
     let e : (part_of file (up_stmt (If cond x y))).is_valid around scope
-        ≡ (stmt_rules file (Stmt-F.If cond (parts_of file (up_stmts x)) (parts_of file (up_stmts y)))).is_valid around scope =
-        ap (λ (z : Part). z.is_valid around scope) (part-If file cond (up_stmts x) (up_stmts y)) in
+    ≡ (stmt_rules file (Stmt-F.If cond (parts_of file (up_stmts x)) (parts_of file (up_stmts y)))).is_valid around scope =
+    ap (λ (z : Part). z.is_valid around scope) (part-If file cond (up_stmts x) (up_stmts y)) in
     let a = and_parts (valid.is_valid_expr file scope cond.test && all_valid (parts_of file (up_stmts x)) around (entered scope))
-        (all_valid (parts_of file (up_stmts y)) around (entered (passed (counts (parts_of file (up_stmts x))) scope))) (sym e ∙ v) in
+    (all_valid (parts_of file (up_stmts y)) around (entered (passed (counts (parts_of file (up_stmts x))) scope))) (sym e ∙ v) in
     let b = and_parts (valid.is_valid_expr file scope cond.test) (all_valid (parts_of file (up_stmts x)) around (entered scope)) a.0 in
     (b.0, b.1, a.1)
 
@@ -369,7 +369,7 @@ pub valid-loop : (file : File) (around : Around) (scope : Scope) (cond : Cond) (
     → (valid.is_valid_expr file scope cond.test ≡ true) × (is_valid_step file scope step ≡ true) × (all_valid (parts_of file (up_stmts body)) (looped around) (entered scope) ≡ true)
 valid-loop file around scope cond step body v =
     let e : (part_of file (up_stmt (Loop cond step body))).is_valid around scope ≡ (stmt_rules file (Stmt-F.Loop cond step (parts_of file (up_stmts body)))).is_valid around scope =
-        ap (λ (z : Part). z.is_valid around scope) (part-Loop file cond step (up_stmts body)) in
+    ap (λ (z : Part). z.is_valid around scope) (part-Loop file cond step (up_stmts body)) in
     let a = and_parts (valid.is_valid_expr file scope cond.test && is_valid_step file scope step) (all_valid (parts_of file (up_stmts body)) (looped around) (entered scope)) (sym e ∙ v) in
     let b = and_parts (valid.is_valid_expr file scope cond.test) (is_valid_step file scope step) a.0 in
     (b.0, b.1, a.1)

@@ -118,9 +118,11 @@ gathered-up (s ∷ more) = ap (λ z. z ∷ up_stmts (gathered more)) s.1.1 ∙ a
 stmt-level : (y : Stmt-F S) → CoveredStmt (roll-Stmt (map-Stmt S source_stmt.Stmt (λ s. s.0) y))
 stmt-level (Stmt-F.Simple a ops) = (Simple a ops, sym (stmt.rolls-Simple a ops))
 stmt-level (Stmt-F.Jump j ops) = (Jumps j ops, sym (stmt.rolls-Jump j ops))
-stmt-level (Stmt-F.If c x y) =
-    (If c (gathered x) (gathered y), ap (λ z. stmt.If c z (up_stmts (gathered y))) (gathered-up x) ∙ ap (λ z. stmt.If c (map (λ s. s.0) x) z) (gathered-up y)
-    ∙ sym (stmt.rolls-If c (map (λ s. s.0) x) (map (λ s. s.0) y)))
+stmt-level (Stmt-F.If c x y) = (
+  If c (gathered x) (gathered y),
+  ap (λ z. stmt.If c z (up_stmts (gathered y))) (gathered-up x) ∙ ap (λ z. stmt.If c (map (λ s. s.0) x) z) (gathered-up y)
+      ∙ sym (stmt.rolls-If c (map (λ s. s.0) x) (map (λ s. s.0) y)),
+)
 stmt-level (Stmt-F.Loop c s x) =
     (Loop c s (gathered x), ap (λ z. stmt.Loop c s z) (gathered-up x) ∙ sym (stmt.rolls-Loop c s (map (λ s. s.0) x)))
 stmt-level (Stmt-F.Block x) = (Block (gathered x), ap (λ z. stmt.Block z) (gathered-up x) ∙ sym (stmt.rolls-Block (map (λ s. s.0) x)))

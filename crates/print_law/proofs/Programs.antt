@@ -161,7 +161,7 @@ head-ok gives.Void name ps d p c = plain-head-ok name ps d p
 head-ok gives.Thread name ps d p c =
     let one = one-param ps c in
     let first : is_declared_name (name_at ps 0) ≡ true =
-        ap (λ z. is_declared_name (name_at z 0)) one.1 ∙ (and_parts (is_declared_name one.0) true (sym (ap (list_all is_declared_name) one.1) ∙ p)).0 in
+    ap (λ z. is_declared_name (name_at z 0)) one.1 ∙ (and_parts (is_declared_name one.0) true (sym (ap (list_all is_declared_name) one.1) ∙ p)).0 in
     both _ _ (declared-name name d) (both _ _ (declared-name (name_at ps 0) first) refl)
 
 -- what a valid function says
@@ -180,7 +180,7 @@ function-parts file fn v =
     let c = and_parts (are_declared_names fn.params) (is_valid_count fn.kind (length fn.params)) b.0 in
     let d = and_parts (list_all is_declared_name fn.params) (are_distinct fn.params) c.0 in
     let body : all_valid (parts_of file (up_stmts (plain_body fn.body))) (body_around fn) (body_scope fn) ≡ true =
-        ap (λ z. all_valid (parts_of file z) (body_around fn) (body_scope fn)) (plain_body-up fn.body) ∙ b.1 in
+    ap (λ z. all_valid (parts_of file z) (body_around fn) (body_scope fn)) (plain_body-up fn.body) ∙ b.1 in
     record { params = d.0; distinct = d.1; count = c.1; body = body; end = a.1; formed = stmts-formed file (body_around fn) (body_scope fn) (plain_body fn.body) body }
 
 module _ (tree : Tree) (ok : Names_ok tree) (known : n.Names) (means : Means known (tree_table tree)) where
@@ -284,6 +284,10 @@ tree_spots tree = spots_of [] (parts_lines (tree_parts tree))
 pub tree_file : Tree → f.File
 tree_file tree = parts_tree (tree_parts tree) (tree_spots tree)
 
+pub tree_file-is : (tree : Tree) → tree_file tree ≡ parts_tree (tree_parts tree) (tree_spots tree)
+unfolding tree_file
+tree_file-is tree = refl
+
 pub file-derived : (tree : Tree) → IsValid tree → f.is_file (tree_file tree) ≡ true
 unfolding tree_file tree_spots
 file-derived tree v = parts-good (tree_parts tree) (tree-lawful tree (starts-quiet tree.starts (small-starts tree v))) []
@@ -295,7 +299,7 @@ text-divided tree v =
     let laws = tree-lawful tree (starts-quiet tree.starts (small-starts tree v)) in
     let hold = parts-hold ps laws in
     let tokens : f.file_tokens (parts_tree ps (spots_of [] (parts_lines ps))) ≡ marked (spots_of [] (parts_lines ps)) (line_kinds (parts_lines ps)) =
-        parts-told ps laws (spots_of [] (parts_lines ps)) ∙ ap (marked (spots_of [] (parts_lines ps))) (sym hold) in
+    parts-told ps laws (spots_of [] (parts_lines ps)) ∙ ap (marked (spots_of [] (parts_lines ps))) (sym hold) in
     let text : canonical tree ≡ lines_text (parts_lines ps) = tree-text tree (formed-functions (file_of tree) tree.functions v.functions) in
     let divided = lines-divided (parts_lines ps) (held-ok (parts_lines ps) (parts_items ps) hold (tree-ok tree v)) (parts-fit ps laws) in
     subst (λ z. DividesInto (canonical tree) z) (sym tokens) (subst (λ z. DividesInto z (marked (spots_of [] (parts_lines ps)) (line_kinds (parts_lines ps)))) (sym text) divided)

@@ -229,7 +229,7 @@ create-told names t f e d spots =
     ap (λ z. word w.Create (here spots) ∷ sign s.OpenParen (here (later spots)) ∷ sign s.Ampersand (here (later (later spots))) ∷ z)
     (joint start (target_items names t) (thread_items names f e) (m.target_marks d (target_tree names t start)) _ (target-told names t d start)
     (ap (λ z. sign s.Comma (here behind) ∷ word w.Null (here (later behind)) ∷ sign s.Comma (here (later (later behind)))
-      ∷ ident (ident_at (name_at names.functions f) (later (later (later behind)))) ∷ sign s.Comma (here (later (later (later (later behind))))) ∷ z)
+    ∷ ident (ident_at (name_at names.functions f) (later (later (later behind)))) ∷ sign s.Comma (here (later (later (later (later behind))))) ∷ z)
     (joint last (argument_items names e) (Is (IsSign s.CloseParen) ∷ []) (m.thread_arg_marks d (argument_tree names e last)) _ (argument-told names e d last) refl)))
 
 pub act-told : (names : Names) (a : Act) (d : ℕ) (spots : List Spot) → tokens (made_marks d (act_made names a spots)) ≡ spotted spots (act_items names a)
@@ -256,7 +256,7 @@ act-told names (act.Print text args) d spots =
 act-told names (act.Scan t) d spots =
     let start = later (later (later (later (later spots)))) in
     ap (λ z. word w.Scanf (here spots) ∷ sign s.OpenParen (here (later spots)) ∷ quoted (text_at (codes "%d") (later (later spots)))
-      ∷ sign s.Comma (here (later (later (later spots)))) ∷ sign s.Ampersand (here (later (later (later (later spots))))) ∷ z)
+    ∷ sign s.Comma (here (later (later (later spots)))) ∷ sign s.Ampersand (here (later (later (later (later spots))))) ∷ z)
     (joint start (target_items names t) (Is (IsSign s.CloseParen) ∷ []) (m.target_marks d (target_tree names t start)) _ (target-told names t d start) refl)
 
 pub act-derived : (names : Names) (a : Act) (spots : List Spot) → is_made (act_made names a spots) ≡ true

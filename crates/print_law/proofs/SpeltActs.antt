@@ -182,14 +182,15 @@ pair-by byte rest k true is_percent d p e g =
     let m = more-some (directives_left false rest) k e in
     let c = g m.0 m.1 in
     let total : count_by is_number_pair (pairs_from true (byte ∷ rest)) ≡ 1 + count_by is_number_pair (pairs_from false rest) =
-        sum_by-append (λ z. cond (is_number_pair z) 1 0) (Some byte ∷ []) (pairs_from false rest) ∙ ap (λ z. (0 + cond z 1 0) + count_by is_number_pair (pairs_from false rest)) d in
+    sum_by-append (λ z. cond (is_number_pair z) 1 0) (Some byte ∷ []) (pairs_from false rest) ∙ ap (λ z. (0 + cond z 1 0) + count_by is_number_pair (pairs_from false rest)) d in
     (omega (arith, total, c.0, m.2), ap (λ z. not (z || byte == 37) || list_any is_other_pair (pairs_from false rest)) d ∙ c.1)
 pair-by byte rest k false true d p e g =
     let c = g k e in
     let total : count_by is_number_pair (pairs_from true (byte ∷ rest)) ≡ 0 + count_by is_number_pair (pairs_from false rest) =
-        sum_by-append (λ z. cond (is_number_pair z) 1 0) (Some byte ∷ []) (pairs_from false rest) ∙ ap (λ z. (0 + cond z 1 0) + count_by is_number_pair (pairs_from false rest)) d in
-    (omega (arith, total, c.0),
-    ap (λ z. not (z || byte == 37) || list_any is_other_pair (pairs_from false rest)) d ∙ ap (λ z. not z || list_any is_other_pair (pairs_from false rest)) p ∙ c.1)
+    sum_by-append (λ z. cond (is_number_pair z) 1 0) (Some byte ∷ []) (pairs_from false rest) ∙ ap (λ z. (0 + cond z 1 0) + count_by is_number_pair (pairs_from false rest)) d in (
+      omega (arith, total, c.0),
+      ap (λ z. not (z || byte == 37) || list_any is_other_pair (pairs_from false rest)) d ∙ ap (λ z. not z || list_any is_other_pair (pairs_from false rest)) p ∙ c.1,
+    )
 pair-by byte rest k false false d p e g = no-some k e
 
 counted : (text : List ℕ) (flag : Bool) (k : ℕ) → directives_left flag text ≡ Some k → Counted flag text k
@@ -206,9 +207,10 @@ print-clean : (text : List ℕ) (count given : ℕ) (at spot : Spot) → is_coun
     → (limits (printf_faults given text at) ≡ true) × (limits (fault_if (has_other text) spot WrongUse) ≡ true)
 print-clean text count given at spot h e =
     let c = counted text false count (count-is count (directives text) h) in
-    let wrong : not (numbers_in text == given) ≡ false = ap not (eq-eqb (numbers_in text) given (c.0 ∙ sym e)) in
-    (limits-append (fault_if (not (numbers_in text == given)) at Arity) _ (no-fault (not (numbers_in text == given)) at Arity wrong) (limit-if (nat_lt MAX_ARGUMENTS given) at),
-    no-fault (has_other text) spot WrongUse c.1)
+    let wrong : not (numbers_in text == given) ≡ false = ap not (eq-eqb (numbers_in text) given (c.0 ∙ sym e)) in (
+      limits-append (fault_if (not (numbers_in text == given)) at Arity) _ (no-fault (not (numbers_in text == given)) at Arity wrong) (limit-if (nat_lt MAX_ARGUMENTS given) at),
+      no-fault (has_other text) spot WrongUse c.1,
+    )
 
 -- the number 0 as the argument of a thread
 
@@ -494,7 +496,7 @@ module _ (names : Names) (known : n.Names) (file : File) (facts : FileFacts name
             let x = ident_at name (later (later (later behind))) in
             let fits : is_thread_function_use (n.use_of known scope name) ≡ true = ap is_thread_function_use u.2 ∙ f.2 in
             let uses : limits (use_faults (is_thread_function_use (n.use_of known scope name)) (n.use_of known scope name) x.spot) ≡ true =
-                ap (λ z. limits (use_faults (is_thread_function_use z) z x.spot)) u.2 ∙ no-fault (not (is_thread_kind f.0.kind)) x.spot WrongUse (ap not f.2) in
+            ap (λ z. limits (use_faults (is_thread_function_use z) z x.spot)) u.2 ∙ no-fault (not (is_thread_kind f.0.kind)) x.spot WrongUse (ap not f.2) in
             limits-append (thread_target_faults known scope (target_tree names t (later (later (later spots))))) _ (ts.clean (later (later (later spots))))
             (limits-append (created_faults known scope x) (thread_arg_faults known scope (argument_tree names e last))
             (limits-append (reserved_faults x) _ (no-reserved x u.1) uses) (argument-clean (is_zero e) e ve last));

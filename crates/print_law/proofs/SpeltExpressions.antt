@@ -173,7 +173,7 @@ module _ (names : Names) (known : n.Names) (file : File) (facts : FileFacts name
   spelt-expr (Variable v) h =
       let t : Target = record { var = v; index = None } in
       let fits : is_int_use (kind_here file scope v) None ≡ true =
-          ap (λ (z : valid.Use). is_int_use z.kind z.index) (sym (use-is file scope t)) ∙ sym (valid-Read file scope t) ∙ h in
+      ap (λ (z : valid.Use). is_int_use z.kind z.index) (sym (use-is file scope t)) ∙ sym (valid-Read file scope t) ∙ h in
       let u = used v int (int-scalar (kind_here file scope v) fits) in
       record {
         ok = both _ _ (declared-name (var_name names v) u.declared) refl;
@@ -183,7 +183,7 @@ module _ (names : Names) (known : n.Names) (file : File) (facts : FileFacts name
   spelt-expr (Element v e) h =
       let t : Target = record { var = v; index = Some (up e) } in
       let fits : is_int_use (kind_here file scope v) (Some (is_valid_expr file scope (up e))) ≡ true =
-          ap (λ (z : valid.Use). is_int_use z.kind z.index) (sym (use-is file scope t)) ∙ sym (valid-Read file scope t) ∙ h in
+      ap (λ (z : valid.Use). is_int_use z.kind z.index) (sym (use-is file scope t)) ∙ sym (valid-Read file scope t) ∙ h in
       let k = int-element (kind_here file scope v) (is_valid_expr file scope (up e)) fits in
       let u = used v int_array k.0 in
       let s = spelt-expr e k.1 in

@@ -432,5 +432,5 @@ module _ (names : Names) (known : n.Names) (file : File) (facts : FileFacts name
         let left = place-left names scope.count (own_names st) (all_names more) place in
         let first = spelt-stmt st around (entered scope) vs.0 ws.0 locals left in
         let rest = spelt-stmts more around behind vs.1 ws.1 (known-after names file around (entered scope) st vs.0 locals left)
-            (place-right names scope.count behind.count (own_names st) (all_names more) (after-count file st (entered scope)) place) in
+        (place-right names scope.count behind.count (own_names st) (all_names more) (after-count file st (entered scope)) place) in
         else-by around scope st more first (spelt-and around (entered scope) st more first rest)

@@ -124,8 +124,8 @@ block-told names (ReturnValue v) op more d spots =
     let first = after (later behind) (op_items op) in
     let last = after (later first) (ops_items more) in
     let end : List Mark =
-        (word w.Return (here last), suc d) ∷ (word w.Value (here (later last)), suc d) ∷ (sign s.Semicolon (here (later (later last))), suc d)
-        ∷ (sign s.CloseBrace (here (later (later (later last)))), suc d) ∷ [] in
+    (word w.Return (here last), suc d) ∷ (word w.Value (here (later last)), suc d) ∷ (sign s.Semicolon (here (later (later last))), suc d)
+    ∷ (sign s.CloseBrace (here (later (later (later last)))), suc d) ∷ [] in
     let back : List Mark = (sign s.Semicolon (here first), suc d) ∷ (o.ops_marks (suc d) (ops_tree more (later first)) ++ end) in
     ap (λ z. sign s.OpenBrace (here spots) ∷ word w.Int (here (later spots)) ∷ word w.Value (here (later (later spots))) ∷ sign s.Assign (here (later (later (later spots)))) ∷ z)
     (joint start (value_items names v) (Is (IsSign s.Semicolon) ∷ (op_items op ++ value_end more)) (m.value_marks (suc d) (value_tree names v start))

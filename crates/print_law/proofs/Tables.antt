@@ -76,7 +76,7 @@ known_in table text = record { first = lookup table text; form = form_in table t
 
 -- bytes
 
-bytes-apart : (xs ys : List ℕ) → bytes_eq xs ys ≡ false → bytes_eq ys xs ≡ false
+pub bytes-apart : (xs ys : List ℕ) → bytes_eq xs ys ≡ false → bytes_eq ys xs ≡ false
 bytes-apart xs ys h = by (bytes_eq ys xs) refl
   where
     by : (b : Bool) → bytes_eq ys xs ≡ b → bytes_eq ys xs ≡ false
@@ -201,7 +201,7 @@ functions-names : (j : ℕ) (list : List Function) → entry_names (functions_ta
 functions-names j [] = refl
 functions-names j (x ∷ list) = ap (λ z. x.name ∷ z) (functions-names (suc j) list)
 
-map-append : {A B : Type 0} (f : A → B) (xs ys : List A) → map f (xs ++ ys) ≡ map f xs ++ map f ys
+pub map-append : {A B : Type 0} (f : A → B) (xs ys : List A) → map f (xs ++ ys) ≡ map f xs ++ map f ys
 map-append f [] ys = refl
 map-append f (x ∷ xs) ys = ap (λ z. f x ∷ z) (map-append f xs ys)
 
@@ -323,7 +323,7 @@ params-known names kind [] scope d known place = record { locals = known; count 
 params-known names kind (p ∷ ps) scope d known place =
     let ds = and_parts (is_declared_name p) (list_all is_declared_name ps) d in
     let fact : LocalFact names (record { name = p; kind = kind; number = scope.count }) =
-        record { named = place-first names scope.count p (place-left names scope.count (p ∷ []) ps place); declared = ds.0 } in
+    record { named = place-first names scope.count p (place-left names scope.count (p ∷ []) ps place); declared = ds.0 } in
     let r = params-known names kind ps (declared p kind scope) ds.1 (fact, known) (place-right names scope.count (scope.count + 1) (p ∷ []) ps refl place) in
     let c = r.count in
     record { locals = r.locals; count = omega (arith, c) }
@@ -332,7 +332,7 @@ params-known names kind (p ∷ ps) scope d known place =
 pub function-place : (tree : Tree) (fn : Function) → all_formed (plain_body fn.body) ≡ true → Place (names_in tree fn) 0 (fn.params ++ all_names (plain_body fn.body))
 function-place tree fn h =
     let names : joined (map declared_names fn.body) ≡ all_names (plain_body fn.body) =
-        ap (λ z. joined (map declared_names z)) (sym (plain_body-up fn.body)) ∙ all-names-are (plain_body fn.body) h in
+    ap (λ z. joined (map declared_names z)) (sym (plain_body-up fn.body)) ∙ all-names-are (plain_body fn.body) h in
     record {
       before = [];
       behind = [];
