@@ -16,8 +16,6 @@ mod simple;
 mod stmts;
 mod strings;
 mod targets;
-#[cfg(test)]
-mod tests;
 mod walk;
 
 pub use around::Around;
