@@ -55,7 +55,6 @@ nodes-append [] ys = omega (arith)
 nodes-append (x ∷ xs) ys = omega (arith, nodes-append xs ys)
 
 module _ (tree : Tree) where
-
   -- no edge leads from the start as from a node
   start-none : (number : ℕ) (next : Next) (u v : ℕ) → Link (way_edges (start_way number next)) u v → ⊥
   start-none number next u v link = elim (Contains-push_cases [] (record { place = Start (fn_id number); source = None; target = next }) link.edge link.is_edge) [
@@ -70,9 +69,10 @@ module _ (tree : Tree) where
       elim (either (way_edges (start_way number (first_of (size_of (parts_of f.body)) first None))) (edges_of (along (parts_of f.body) first outermost)) u v link) [
         | inl start ↦ absurd (start-none number (first_of (size_of (parts_of f.body)) first None) u v start)
         | inr node ↦
-            let within = link_within first (first + size_of (parts_of f.body)) (along (parts_of f.body) first outermost) u v (body_within f.body first) node in
-            (record { from = within.0.0; below = omega (arith, within.0.1, size_is_nodes f.body) },
-              record { from = within.1.0; below = omega (arith, within.1.1, size_is_nodes f.body) })
+            let within = link_within first (first + size_of (parts_of f.body)) (along (parts_of f.body) first outermost) u v (body_within f.body first) node in (
+              record { from = within.0.0; below = omega (arith, within.0.1, size_is_nodes f.body) },
+              record { from = within.1.0; below = omega (arith, within.1.1, size_is_nodes f.body) },
+            )
       ]
 
   -- the first node of the function behind these

@@ -74,9 +74,12 @@ local_int-even names scope (d.LocalArray x before n after) = refl
 local_ints-even : (names : Names) (scope : Scope) (xs : List d.LocalInt) → length (each local_int_calls xs) ≡ in_acts (local_ints_of names scope xs)
 local_ints-even names scope [] = refl
 local_ints-even names scope (x ∷ xs) =
-    omega (arith,
+    omega (
+      arith,
       length-append (local_int_calls x) (each local_int_calls xs),
-      local_int-even names scope x, local_ints-even names (with_local (local_int_declared x) scope) xs)
+      local_int-even names scope x,
+      local_ints-even names (with_local (local_int_declared x) scope) xs,
+    )
 
 holds-even : (names : Names) (xs : List d.Hold) → 0 ≡ in_acts (map (hold_of names) xs)
 holds-even names [] = refl
@@ -147,20 +150,27 @@ mutual
       omega (arith, simple-even names scope x, in-Simple call_count (simple_of names scope x) (ops_of ops))
   stmt-calls names around scope (t.Jumps j) = omega (arith, jump-even names around scope j)
   stmt-calls names around scope (t.If at before x after st a) =
-      omega (arith,
+      omega (
+        arith,
         length-append (stmt_calls st) (else_calls a),
-        stmt-calls names around (entered scope) st, else-calls names around (passed (stmt_locals st) scope) a,
-        in-If call_count (cond_of names scope x) (stmt_of names around (entered scope) st) (else_of names around (passed (stmt_locals st) scope) a))
+        stmt-calls names around (entered scope) st,
+        else-calls names around (passed (stmt_locals st) scope) a,
+        in-If call_count (cond_of names scope x) (stmt_of names around (entered scope) st) (else_of names around (passed (stmt_locals st) scope) a),
+      )
   stmt-calls names around scope (t.While at before x after st) =
-      omega (arith,
+      omega (
+        arith,
         stmt-calls names (looped around) (entered scope) st,
-        in-Loop call_count (cond_of names scope x) None (stmt_of names (looped around) (entered scope) st))
+        in-Loop call_count (cond_of names scope x) None (stmt_of names (looped around) (entered scope) st),
+      )
   stmt-calls names around scope (t.For at before first end x end2 step after st) =
-      omega (arith,
+      omega (
+        arith,
         step-even names (in_for first scope) step,
         stmt-calls names (looped around) (entered (in_for first scope)) st,
         for-even names (entered scope) first (stmt.Loop (test_of names (in_for first scope) x) (step_of names (in_for first scope) step) (stmt_of names (looped around) (entered (in_for first scope)) st)),
-        in-Loop call_count (test_of names (in_for first scope) x) (step_of names (in_for first scope) step) (stmt_of names (looped around) (entered (in_for first scope)) st))
+        in-Loop call_count (test_of names (in_for first scope) x) (step_of names (in_for first scope) step) (stmt_of names (looped around) (entered (in_for first scope)) st),
+      )
 
   pub else-calls : (names : Names) (around : Around) (scope : Scope) (a : t.Else)
       → length (else_calls a) ≡ in_stmts call_count (else_of names around scope a)
@@ -171,10 +181,13 @@ mutual
       → length (items_calls items) ≡ in_stmts call_count (items_of names around scope items)
   items-calls names around scope t.NoItems = refl
   items-calls names around scope (t.AndItem i more) =
-      omega (arith,
+      omega (
+        arith,
         length-append (item_calls i) (items_calls more),
         in_stmts-append call_count (item_of names around scope i) (items_of names around (item_after scope i) more),
-        item-calls names around scope i, items-calls names around (item_after scope i) more)
+        item-calls names around scope i,
+        items-calls names around (item_after scope i) more,
+      )
 
   pub item-calls : (names : Names) (around : Around) (scope : Scope) (i : t.Item)
       → length (item_calls i) ≡ in_stmts call_count (item_of names around scope i)

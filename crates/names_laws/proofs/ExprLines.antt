@@ -60,31 +60,40 @@ pub expr-even : (names : Names) (scope : Scope) (e : g.Expr)
 expr-even names scope (g.Number n) = sym (ap length (accesses-Number n.value))
 expr-even names scope (g.Name x) = name-even (use_of names scope x.text) x.spot
 expr-even names scope (g.Index x before e after) =
-    omega (arith,
+    omega (
+      arith,
       length-append (expr_lines names scope e) (touch_lines (var_of (use_of names scope x.text)) x.spot),
-      expr-even names scope e, own Read (var_of (use_of names scope x.text)) x.spot,
-      read-length (var_of (use_of names scope x.text)) (Some (expr_of names scope e)))
+      expr-even names scope e,
+      own Read (var_of (use_of names scope x.text)) x.spot,
+      read-length (var_of (use_of names scope x.text)) (Some (expr_of names scope e)),
+    )
 expr-even names scope (g.Paren before e after) = expr-even names scope e
 expr-even names scope (g.Cast before w after long x) =
     sym (ap length (accesses-Cast (local_number (use_of names scope x.text))))
 expr-even names scope (g.Unary op at e) = expr-even names scope e ∙ prefix-even op (expr_of names scope e)
 expr-even names scope (g.Operation a op at b) =
-    omega (arith,
+    omega (
+      arith,
       length-append (expr_lines names scope a) (expr_lines names scope b),
-      expr-even names scope a, expr-even names scope b,
+      expr-even names scope a,
+      expr-even names scope b,
       ap length (accesses-Binary (op_of op) (expr_of names scope a) (expr_of names scope b)),
       length-append (expr_accesses (expr_of names scope a)) (marked (not (stops_early (op_of op))) (expr_accesses (expr_of names scope b))),
-      marked-length (not (stops_early (op_of op))) (expr_accesses (expr_of names scope b)))
+      marked-length (not (stops_early (op_of op))) (expr_accesses (expr_of names scope b)),
+    )
 
 -- expressions, one after another
 pub exprs-even : (names : Names) (scope : Scope) (es : List g.Expr)
     → length (exprs_lines names scope es) ≡ length (args_accesses (exprs_of names scope es))
 exprs-even names scope [] = refl
 exprs-even names scope (e ∷ es) =
-    omega (arith,
+    omega (
+      arith,
       length-append (expr_lines names scope e) (exprs_lines names scope es),
       length-append (expr_accesses (expr_of names scope e)) (args_accesses (exprs_of names scope es)),
-      expr-even names scope e, exprs-even names scope es)
+      expr-even names scope e,
+      exprs-even names scope es,
+    )
 
 -- an index, if there is one
 place-even : (names : Names) (scope : Scope) (i : Option s.Place)
@@ -135,30 +144,47 @@ step-even : (names : Names) (scope : Scope) (step : s.Step) (t : s.Target)
     → length (index_lines names scope t ++ (target_lines names scope t ++ target_lines names scope t))
     ≡ length (act_accesses (stepped step (target_of names scope t)))
 step-even names scope s.Up t =
-    omega (arith,
+    omega (
+      arith,
       three (index_lines names scope t) (target_lines names scope t) (target_lines names scope t),
       left_three (index_accesses (target_of names scope t).index) (touched Read (target_of names scope t).var) (touched Write (target_of names scope t).var),
-      index-even names scope t, target-even names scope Read t, target-even names scope Write t)
+      index-even names scope t,
+      target-even names scope Read t,
+      target-even names scope Write t,
+    )
 step-even names scope s.Down t =
-    omega (arith,
+    omega (
+      arith,
       three (index_lines names scope t) (target_lines names scope t) (target_lines names scope t),
       left_three (index_accesses (target_of names scope t).index) (touched Read (target_of names scope t).var) (touched Write (target_of names scope t).var),
-      index-even names scope t, target-even names scope Read t, target-even names scope Write t)
+      index-even names scope t,
+      target-even names scope Read t,
+      target-even names scope Write t,
+    )
 
 -- an assignment, `++` or `--`
 pub plain-even : (names : Names) (scope : Scope) (p : s.Plain)
     → length (plain_lines names scope p) ≡ length (act_accesses (plain_of names scope p))
 plain-even names scope (s.SetTo t at e) =
-    omega (arith,
+    omega (
+      arith,
       three (index_lines names scope t) (expr_lines names scope e) (target_lines names scope t),
       left_four (index_accesses (target_of names scope t).index) [] (expr_accesses (expr_of names scope e)) (touched Write (target_of names scope t).var),
-      index-even names scope t, expr-even names scope e, target-even names scope Write t)
+      index-even names scope t,
+      expr-even names scope e,
+      target-even names scope Write t,
+    )
 plain-even names scope (s.Changed t c at e) =
-    omega (arith,
+    omega (
+      arith,
       four (index_lines names scope t) (target_lines names scope t) (expr_lines names scope e) (target_lines names scope t),
       left_four (index_accesses (target_of names scope t).index) (kept_accesses (how_of c) (target_of names scope t).var) (expr_accesses (expr_of names scope e)) (touched Write (target_of names scope t).var),
       ap length (kept-is c (target_of names scope t).var),
-      index-even names scope t, expr-even names scope e, target-even names scope Read t, target-even names scope Write t)
+      index-even names scope t,
+      expr-even names scope e,
+      target-even names scope Read t,
+      target-even names scope Write t,
+    )
 plain-even names scope (s.SteppedAfter t step at) = step-even names scope step t
 plain-even names scope (s.SteppedBefore step at t) = step-even names scope step t
 
@@ -171,28 +197,38 @@ arg-even names scope (s.CastArg before void star after long e) = expr-even names
 pub library-even : (names : Names) (scope : Scope) (l : s.Library)
     → length (library_lines names scope l) ≡ length (act_accesses (library_of names scope l))
 library-even names scope (s.Create at before amp t comma1 null comma2 f comma3 arg after) =
-    omega (arith,
+    omega (
+      arith,
       length-append (index_lines names scope t) (thread_arg_lines names scope arg),
       length-append (index_accesses (target_of names scope t).index) (expr_accesses (thread_arg_of names scope arg)),
-      index-even names scope t, arg-even names scope arg)
+      index-even names scope t,
+      arg-even names scope arg,
+    )
 library-even names scope (s.Join at before t comma null after) = index-even names scope t
 library-even names scope (s.Lock at before amp m after) = refl
 library-even names scope (s.Unlock at before amp m after) = refl
 library-even names scope (s.Print at before text more after) = exprs-even names scope (map (λ y. y.1) more)
 library-even names scope (s.Scan at before text comma amp t after) =
-    omega (arith,
+    omega (
+      arith,
       length-append (index_lines names scope t) (target_lines names scope t),
       length-append (index_accesses (target_of names scope t).index) (touched Write (target_of names scope t).var),
-      index-even names scope t, target-even names scope Write t)
+      index-even names scope t,
+      target-even names scope Write t,
+    )
 
 -- a simple statement that is no declaration
 pub simple-even : (names : Names) (scope : Scope) (x : s.Simple)
     → length (simple_lines names scope x) ≡ length (act_accesses (simple_of names scope x))
 simple-even names scope (s.PlainPart p) = plain-even names scope p
 simple-even names scope (s.SetCall t at c) =
-    omega (arith,
+    omega (
+      arith,
       three (index_lines names scope t) (args_lines names scope c) (target_lines names scope t),
       left_four (index_accesses (target_of names scope t).index) [] (args_accesses (call_of names scope c).args) (touched Write (target_of names scope t).var),
-      index-even names scope t, args-even names scope c, target-even names scope Write t)
+      index-even names scope t,
+      args-even names scope c,
+      target-even names scope Write t,
+    )
 simple-even names scope (s.OnlyCall c) = args-even names scope c
 simple-even names scope (s.LibraryPart l) = library-even names scope l

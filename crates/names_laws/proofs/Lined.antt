@@ -24,10 +24,13 @@ top-lines names (f.Function head before ops items after) = omega (arith, items-e
 tops-lines : (names : Names) (file : f.File) → length (each (top_lines names) file) ≡ in_functions touch_count (each (top_functions_of names) file)
 tops-lines names [] = refl
 tops-lines names (x ∷ more) =
-    omega (arith,
+    omega (
+      arith,
       length-append (top_lines names x) (each (top_lines names) more),
       in_functions-append touch_count (top_functions_of names x) (each (top_functions_of names) more),
-      top-lines names x, tops-lines names more)
+      top-lines names x,
+      tops-lines names more,
+    )
 
 top-calls : (names : Names) (x : f.Top) → length (top_calls x) ≡ in_functions call_count (top_functions_of names x)
 top-calls names (f.Include at name header) = refl
@@ -39,10 +42,13 @@ top-calls names (f.Function head before ops items after) = omega (arith, items-c
 tops-calls : (names : Names) (file : f.File) → length (each top_calls file) ≡ in_functions call_count (each (top_functions_of names) file)
 tops-calls names [] = refl
 tops-calls names (x ∷ more) =
-    omega (arith,
+    omega (
+      arith,
       length-append (top_calls x) (each top_calls more),
       in_functions-append call_count (top_functions_of names x) (each (top_functions_of names) more),
-      top-calls names x, tops-calls names more)
+      top-calls names x,
+      tops-calls names more,
+    )
 
 keys-zip : {K : Type 0} (ks : List K) (lines : List ℕ) → length lines ≡ length ks → keys (zip ks lines) ≡ ks
 keys-zip [] lines is = refl
@@ -54,15 +60,19 @@ pub lined_spelled : (file : f.File) → IsLined (source_of file).tree (source_of
 lined_spelled file = record {
   accesses =
       keys-zip (map (λ item. item.id) (tree_accesses (source_of file).tree)) (each (top_lines (names_of file)) file)
-      (omega (arith,
+      (omega (
+        arith,
         tops-lines (names_of file) file,
         length-map (tree_accesses (source_of file).tree) (λ item. item.id),
         accesses-length 0 (tree_order (source_of file).tree),
-        in_program touch_count (each (top_functions_of (names_of file)) file)));
+        in_program touch_count (each (top_functions_of (names_of file)) file),
+      ));
   calls =
       keys-zip (tree_calls (source_of file).tree) (each top_calls file)
-      (omega (arith,
+      (omega (
+        arith,
         tops-calls (names_of file) file,
         calls-length 0 (tree_order (source_of file).tree),
-        in_program call_count (each (top_functions_of (names_of file)) file)));
+        in_program call_count (each (top_functions_of (names_of file)) file),
+      ));
 }

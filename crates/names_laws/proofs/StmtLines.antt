@@ -48,9 +48,12 @@ local_ints-even : (names : Names) (scope : Scope) (xs : List d.LocalInt)
     → length (local_ints_lines names scope xs) ≡ in_acts (local_ints_of names scope xs)
 local_ints-even names scope [] = refl
 local_ints-even names scope (x ∷ xs) =
-    omega (arith,
+    omega (
+      arith,
       length-append (local_int_lines names scope x) (local_ints_lines names (with_local (local_int_declared x) scope) xs),
-      local_int-even names scope x, local_ints-even names (with_local (local_int_declared x) scope) xs)
+      local_int-even names scope x,
+      local_ints-even names (with_local (local_int_declared x) scope) xs,
+    )
 
 holds-even : (names : Names) (xs : List d.Hold) → 0 ≡ in_acts (map (hold_of names) xs)
 holds-even names [] = refl
@@ -70,9 +73,12 @@ loop_ints-even : (names : Names) (scope : Scope) (xs : List d.LoopInt)
     → length (loop_ints_lines names scope xs) ≡ in_acts (loop_ints_of names scope xs)
 loop_ints-even names scope [] = refl
 loop_ints-even names scope (x ∷ xs) =
-    omega (arith,
+    omega (
+      arith,
       length-append (loop_int_lines names scope x) (loop_ints_lines names (with_local (loop_int_declared x) scope) xs),
-      loop_int-even names scope x, loop_ints-even names (with_local (loop_int_declared x) scope) xs)
+      loop_int-even names scope x,
+      loop_ints-even names (with_local (loop_int_declared x) scope) xs,
+    )
 
 -- the first part of a `for`
 first-even : (names : Names) (scope : Scope) (x : t.First)
@@ -175,25 +181,35 @@ mutual
       omega (arith, simple-even names scope x, in-Simple touch_count (simple_of names scope x) (ops_of ops))
   stmt-even names around scope (t.Jumps j) = omega (arith, jump-even names around scope j)
   stmt-even names around scope (t.If at before x after st e) =
-      omega (arith,
+      omega (
+        arith,
         length-append (cond_lines names scope x) (stmt_lines names (entered scope) st ++ else_lines names (passed (stmt_locals st) scope) e),
         length-append (stmt_lines names (entered scope) st) (else_lines names (passed (stmt_locals st) scope) e),
-        cond-even names scope x, stmt-even names around (entered scope) st, else-even names around (passed (stmt_locals st) scope) e,
-        in-If touch_count (cond_of names scope x) (stmt_of names around (entered scope) st) (else_of names around (passed (stmt_locals st) scope) e))
+        cond-even names scope x,
+        stmt-even names around (entered scope) st,
+        else-even names around (passed (stmt_locals st) scope) e,
+        in-If touch_count (cond_of names scope x) (stmt_of names around (entered scope) st) (else_of names around (passed (stmt_locals st) scope) e),
+      )
   stmt-even names around scope (t.While at before x after st) =
-      omega (arith,
+      omega (
+        arith,
         length-append (cond_lines names scope x) (stmt_lines names (entered scope) st),
-        cond-even names scope x, stmt-even names (looped around) (entered scope) st,
-        in-Loop touch_count (cond_of names scope x) None (stmt_of names (looped around) (entered scope) st))
+        cond-even names scope x,
+        stmt-even names (looped around) (entered scope) st,
+        in-Loop touch_count (cond_of names scope x) None (stmt_of names (looped around) (entered scope) st),
+      )
   stmt-even names around scope (t.For at before first end x end2 step after st) =
-      omega (arith,
+      omega (
+        arith,
         length-append (first_lines names (entered scope) first) (test_lines names (in_for first scope) x ++ (step_lines names (in_for first scope) step ++ stmt_lines names (entered (in_for first scope)) st)),
         length-append (test_lines names (in_for first scope) x) (step_lines names (in_for first scope) step ++ stmt_lines names (entered (in_for first scope)) st),
         length-append (step_lines names (in_for first scope) step) (stmt_lines names (entered (in_for first scope)) st),
-        test-even names (in_for first scope) x, step-even names (in_for first scope) step,
+        test-even names (in_for first scope) x,
+        step-even names (in_for first scope) step,
         stmt-even names (looped around) (entered (in_for first scope)) st,
         for-even names (entered scope) first (stmt.Loop (test_of names (in_for first scope) x) (step_of names (in_for first scope) step) (stmt_of names (looped around) (entered (in_for first scope)) st)),
-        in-Loop touch_count (test_of names (in_for first scope) x) (step_of names (in_for first scope) step) (stmt_of names (looped around) (entered (in_for first scope)) st))
+        in-Loop touch_count (test_of names (in_for first scope) x) (step_of names (in_for first scope) step) (stmt_of names (looped around) (entered (in_for first scope)) st),
+      )
 
   pub else-even : (names : Names) (around : Around) (scope : Scope) (e : t.Else)
       → length (else_lines names scope e) ≡ in_stmts touch_count (else_of names around scope e)
@@ -204,10 +220,13 @@ mutual
       → length (items_lines names scope items) ≡ in_stmts touch_count (items_of names around scope items)
   items-even names around scope t.NoItems = refl
   items-even names around scope (t.AndItem i more) =
-      omega (arith,
+      omega (
+        arith,
         length-append (item_lines names scope i) (items_lines names (item_after scope i) more),
         in_stmts-append touch_count (item_of names around scope i) (items_of names around (item_after scope i) more),
-        item-even names around scope i, items-even names around (item_after scope i) more)
+        item-even names around scope i,
+        items-even names around (item_after scope i) more,
+      )
 
   pub item-even : (names : Names) (around : Around) (scope : Scope) (i : t.Item)
       → length (item_lines names scope i) ≡ in_stmts touch_count (item_of names around scope i)

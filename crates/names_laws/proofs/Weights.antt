@@ -20,7 +20,6 @@ use Rattle.c_prog.proofs.Equations.{order-Simple, order-Jump, order-If, order-Lo
 
 -- how many there are of what a node has
 module _ (of : Node → ℕ) where
-
   -- in nodes
   abbrev pub in_nodes : List Node → ℕ
   in_nodes [] = 0
