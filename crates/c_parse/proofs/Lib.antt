@@ -1,0 +1,4 @@
+pub mod Directives
+pub mod Readings
+pub mod Tops
+pub mod Whole

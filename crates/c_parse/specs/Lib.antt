@@ -1,0 +1,5 @@
+pub mod Directives
+pub mod Globals
+pub mod Heads
+pub mod Parsed
+pub mod Tops
