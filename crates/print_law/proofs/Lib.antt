@@ -23,3 +23,5 @@ pub mod Places
 pub mod SpeltStatements
 pub mod Tables
 pub mod Programs
+pub mod Declarations
+pub mod Again
