@@ -1,39 +1,31 @@
 -- Simple statements and steps: their items, and their trees.
-use Rattle.std.proofs.Common.{◌≡◌, ℕ, suc, pos, nat_lt, Bool, true, false, not, ◌&&◌, List, [], ◌∷◌, ◌++◌, map, Option, Some, None, append_assoc, append-nil, refl, ap, sym, ◌∙◌, subst, codes, true≢false, arith, if◌then◌else◌}
-use Rattle.std.specs.Fmt.{decimal}
+use Rattle.std.proofs.Common.{◌≡◌, ℕ, nat_lt, Bool, true, false, ◌&&◌, List, [], ◌∷◌, ◌++◌, Some, None, refl, ap, sym, ◌∙◌, codes, true≢false, arith, if◌then◌else◌}
 use Rattle.cfix_base.specs.declared.spot.Spot.{Spot}
 use Rattle.c_prog.specs.declared.act.Act.{Act}
 use Rattle.c_prog.specs.declared.act.Act.TheVariants as act
 use Rattle.c_prog.specs.declared.act.How.{How}
 use Rattle.c_prog.specs.declared.act.How.TheVariants as how
-use Rattle.c_prog.specs.declared.act.LocalKind.{LocalKind}
-use Rattle.c_prog.specs.declared.act.LocalKind.TheVariants as kind
-use Rattle.c_prog.specs.declared.act.Value.{Value}
 use Rattle.c_prog.specs.declared.act.Value.TheVariants as value
 use Rattle.c_prog.specs.declared.expr.Expr.{Expr}
 use Rattle.c_prog.specs.declared.expr.Target.{Target}
-use Rattle.c_prog.specs.Order.{joined}
 use Rattle.c_grammar.specs.declared.sign.Sign.{Sign}
 use Rattle.c_grammar.specs.declared.sign.Sign.TheVariants as s
 use Rattle.c_grammar.specs.declared.word.Word.{Word}
 use Rattle.c_grammar.specs.declared.word.Word.TheVariants as w
-use Rattle.c_grammar.specs.Token.{IsName, IsNumber, IsQuoted, IsWord, IsSign, Mark, Numeral, Text, word, sign, ident, quoted}
+use Rattle.c_grammar.specs.Token.{IsName, IsWord, IsSign, word, sign}
 use Rattle.c_grammar.specs.Expr as g
 use Rattle.c_grammar.specs.Simple as m
-use Rattle.c_grammar.specs.Decl as l
-use Rattle.c_grammar.specs.Reader.{tokens, first}
+use Rattle.c_grammar.specs.Reader.{tokens}
 use Rattle.c_grammar.specs.Spelling.{sign_text}
-use Rattle.c_print.specs.Text.Names.{Names, name_at}
-use Rattle.c_print.specs.Text.Pieces.{in_brackets}
-use Rattle.c_print.specs.Text.Pieces as pieces
-use Rattle.c_print.specs.Text.Expressions.{is_zero, printed, operand, thread_argument, target_text, expr_text}
-use Rattle.c_print.specs.Text.Acts.{local_text, initial_text, how_sign, act_text, value_text, call_text}
-use Rattle.print_law.proofs.Plain.{plain, plain-up, up}
-use Rattle.print_law.proofs.Items.{Item, Gap, Is, here, later, spotted, after, bare, joint, tokens-placed}
-use Rattle.print_law.proofs.Expressions.{binds, wrap, wrap_tree, expr_items, expr_tree, operand-told, operand-derived, ident_at}
-use Rattle.print_law.proofs.Texts.{spelled, spelled-append, spelled-closed, expr-printed, operand-is}
-use Rattle.print_law.proofs.Apart.{sign_stands, fits, ends, Fits, both, fits-then, open-fits, begins-append, closed-paren, closed-bracket, name-fits, Phrase, operand-phrase}
-use Rattle.print_law.proofs.Calls.{items_of, tree_of, text-of, told-of, derived-of, fits-of, target_items, target_tree, target-told, target-derived, target-text, target-fits, more_items, more_tree, more-told, more-derived, more-text, more-fits, call_items, call_tree, call-told, call-derived, call-text, call-fits, value_items, value_tree, value-told, value-derived, value-text, value-fits}
+use Rattle.c_print.specs.Text.Names.{Names}
+use Rattle.c_print.specs.Text.Expressions.{is_zero, printed, operand, thread_argument}
+use Rattle.c_print.specs.Text.Acts.{how_sign}
+use Rattle.print_law.proofs.Plain.{plain, plain-up}
+use Rattle.print_law.proofs.Items.{Item, Gap, Is, here, later, spotted, after, joint, tokens-placed}
+use Rattle.print_law.proofs.Expressions.{binds, wrap, wrap_tree, operand-told, operand-derived, ident_at}
+use Rattle.print_law.proofs.Texts.{spelled, expr-printed, operand-is}
+use Rattle.print_law.proofs.Apart.{sign_stands, Fits, both, fits-then, open-fits, operand-phrase}
+use Rattle.print_law.proofs.Calls.{items_of, tree_of, told-of, derived-of, fits-of, target_items, target_tree, target-told, target-derived, target-fits}
 
 -- the argument of a created thread
 

@@ -1,6 +1,6 @@
 -- The file of the canonical text spells the program again, and none of its faults is more than a limit.
-use Rattle.std.proofs.Common.{◌≡◌, ℕ, zero, suc, ℤ, pos, negsuc, ◌+◌, ◌-◌, ◌^◌, ◌<◌, ◌≤◌, ◌==◌, nat_le, nat_lt, eqb, Bool, true, false, not, ◌&&◌, ◌||◌, List, [], ◌∷◌, ◌++◌, map, length, drop, append-nil, Option, Some, None, slice_get, append_assoc, refl, ap, sym, ◌∙◌, subst, codes, arith, true≢false, if◌then◌else◌}
-use Rattle.std.proofs.lemmas.Bool.{and_parts, or_parts, leb-true, le-leb, ltb-true, eqb-true, eq-eqb, not-true}
+use Rattle.std.proofs.Common.{◌≡◌, ℕ, zero, suc, pos, negsuc, ◌-◌, ◌^◌, ◌<◌, ◌≤◌, ◌==◌, nat_le, nat_lt, Bool, true, false, not, ◌&&◌, ◌||◌, List, [], ◌∷◌, ◌++◌, map, length, drop, append-nil, Some, None, slice_get, append_assoc, refl, ap, sym, ◌∙◌, codes, arith, true≢false, if◌then◌else◌}
+use Rattle.std.proofs.lemmas.Bool.{and_parts, or_parts, leb-true, le-leb, ltb-true, eq-eqb, not-true}
 use Rattle.std.proofs.lemmas.Fmt.{decimal_injective}
 use Rattle.std.specs.Fmt as fmt
 use Rattle.std.specs.List.{list_all, list_any}
@@ -22,23 +22,21 @@ use Rattle.c_prog.specs.declared.tree.Tree.{Tree}
 use Rattle.c_prog.specs.Patched.{tree_patched, has_some, functions_patched}
 use Rattle.c_prog.specs.Valid.{IsValid, has_valid_function_ops}
 use Rattle.c_prog.specs.Valid.Scope.{VarKind, Scope, nothing_declared, declared, is_in_block}
-use Rattle.c_prog.specs.Valid.Kinds.{File, file_of, global_var_kind}
+use Rattle.c_prog.specs.Valid.Kinds.{file_of, global_var_kind}
 use Rattle.c_prog.specs.Valid.Acts.{is_declared_name}
 use Rattle.c_prog.specs.Valid.Expressions.{is_int_kind, is_main_name}
 use Rattle.c_prog.specs.Valid.Falls.{falls_through}
 use Rattle.c_prog.specs.Valid.Functions.{are_distinct, file_names, param_kind, with_params, is_valid_count, is_valid_end, is_valid_function, is_main}
 use Rattle.c_prog.specs.Valid.Functions as valid
-use Rattle.c_prog.specs.Valid.Operations.{are_valid_ops, have_valid_ops, rise_after, are_rising}
-use Rattle.c_prog.specs.Valid.Statements.{Around}
+use Rattle.c_prog.specs.Valid.Operations.{rise_after, are_rising}
 use Rattle.c_grammar.specs.Reader.{each, maybe}
 use Rattle.c_grammar.specs.File as f
 use Rattle.c_grammar.specs.Token.{Ident}
 use Rattle.c_print.specs.Text.Names.{names_in}
-use Rattle.c_names.specs.declared.fault.Fault.{Fault}
 use Rattle.c_names.specs.declared.fault.FaultKind.TheVariants.{Unknown, Twice, WrongUse, NoReturn, Limit}
 use Rattle.c_names.specs.Faults.{fault, fault_if}
 use Rattle.c_names.specs.Uses as n
-use Rattle.c_names.specs.Names.{reserved_faults, declare_faults, length_faults}
+use Rattle.c_names.specs.Names.{reserved_faults, length_faults}
 use Rattle.c_names.specs.Simples.{ops_faults}
 use Rattle.c_names.specs.Statements.{items_faults}
 use Rattle.c_names.specs.SpelledStatements.{ops_of, items_of}
@@ -47,22 +45,22 @@ use Rattle.c_names.specs.Starts.{digits_number, start_number, start_faults, with
 use Rattle.c_names.specs.Declarations.{head_name, head_kind, Parameter, head_params, head_form, Declaration, declarations, is_declared, names_of}
 use Rattle.c_names.specs.Files as files
 use Rattle.c_names.specs.Files.{all_twice_faults, no_main_faults, main_form_faults, is_same_kind, is_same_form, prototype_name_faults, prototype_param_faults, prototype_faults, param_text, params_faults, end_faults, function_faults, function_cells, top_faults, top_functions, top_cells, top_nodes, is_function_use, main_faults, count_faults, faults_with, faults_of}
-use Rattle.c_names.specs.Sources.{top_globals, top_functions_of, tree_with, source_of, function_of}
-use Rattle.print_law.proofs.Plain.{plain_body, plain_body-up, up_stmts}
-use Rattle.print_law.proofs.Items.{Item, here, later, after}
+use Rattle.c_names.specs.Sources.{top_globals, top_functions_of, source_of, function_of}
+use Rattle.print_law.proofs.Plain.{plain_body, plain_body-up}
+use Rattle.print_law.proofs.Items.{here, later, after}
 use Rattle.print_law.proofs.Apart.{both}
 use Rattle.print_law.proofs.Expressions.{ident_at}
 use Rattle.print_law.proofs.Operations.{ops_items, ops_tree}
 use Rattle.print_law.proofs.Statements.{stmts_tree}
-use Rattle.print_law.proofs.Parts.{Part, Empty, One, parts_tree}
+use Rattle.print_law.proofs.Parts.{Part, One, parts_tree}
 use Rattle.print_law.proofs.Decimals.{Written, written}
 use Rattle.print_law.proofs.Files.{start_name, start_line, start_parts, own_parts, own_line, own_tree, include_line, header_parts, global_line, global_tree, global_parts, prototype_line, prototype_by, prototype_parts, function_items, function_tree, function_parts, head_items, head_tree, tree_parts}
-use Rattle.print_law.proofs.Meanings.{FileFacts, bytes-same, bytes-refl, limits, limits-append, limit-if, no-fault, no-reserved}
+use Rattle.print_law.proofs.Meanings.{bytes-same, limits, limits-append, limit-if, no-fault, no-reserved}
 use Rattle.print_law.proofs.SpeltActs.{ops-again, ops-clean}
 use Rattle.print_law.proofs.SpeltStatements.{SpeltStmts}
-use Rattle.print_law.proofs.Tables.{Entry, starts_table, own_table, file_table, tree_table, entry_names, lookup, form_in, known_in, bytes-apart, differ, Means, Names_ok, all-at, map-append, file-names, entry-lookup, entry-form, global-entry, function-entry, function-declared, global-declared, file-facts, own-absent}
+use Rattle.print_law.proofs.Tables.{starts_table, own_table, file_table, tree_table, entry_names, lookup, form_in, bytes-apart, differ, Means, Names_ok, all-at, map-append, file-names, entry-lookup, entry-form, global-entry, function-entry, function-declared, global-declared, file-facts}
 use Rattle.print_law.proofs.Programs.{FunctionParts, function-parts, function-spelt, valid-names, small-starts}
-use Rattle.print_law.proofs.Declarations.{Sections, sections, Named, head-named, named-texts, named-length, head-kind, head-text, erased, counts_ok, declarations-are, file-means}
+use Rattle.print_law.proofs.Declarations.{sections, Named, head-named, named-texts, named-length, head-kind, head-text, erased, counts_ok, declarations-are, file-means}
 
 -- lists
 

@@ -1,5 +1,5 @@
 -- Variables, arguments, calls and values: their items, and their trees.
-use Rattle.std.proofs.Common.{◌≡◌, ℕ, suc, true, List, [], ◌∷◌, ◌++◌, map, Option, Some, None, append_assoc, append-nil, refl, ap, sym, ◌∙◌, codes}
+use Rattle.std.proofs.Common.{◌≡◌, ℕ, suc, true, List, [], ◌∷◌, ◌++◌, map, Option, Some, None, append_assoc, refl, ap, sym, ◌∙◌, codes}
 use Rattle.cfix_base.specs.declared.spot.Spot.{Spot}
 use Rattle.c_prog.specs.declared.act.CallForm.{CallForm}
 use Rattle.c_prog.specs.declared.act.Value.{Value}
@@ -9,19 +9,19 @@ use Rattle.c_prog.specs.declared.expr.Target.{Target}
 use Rattle.c_prog.specs.declared.expr.Var.{Var}
 use Rattle.c_prog.specs.Order.{joined}
 use Rattle.c_grammar.specs.declared.sign.Sign.TheVariants as s
-use Rattle.c_grammar.specs.Token.{Kind, IsName, IsSign, Token, Mark}
+use Rattle.c_grammar.specs.Token.{IsName, IsSign}
 use Rattle.c_grammar.specs.Expr as g
 use Rattle.c_grammar.specs.Simple as m
 use Rattle.c_grammar.specs.Reader.{tokens, first}
 use Rattle.c_print.specs.Text.Names.{Names, name_at, var_name}
 use Rattle.c_print.specs.Text.Pieces.{between, in_parentheses}
-use Rattle.c_print.specs.Text.Expressions.{printed, printed_target, target_text, expr_text}
+use Rattle.c_print.specs.Text.Expressions.{target_text, expr_text}
 use Rattle.c_print.specs.Text.Acts.{call_text, value_text}
 use Rattle.c_print.proofs.TextEquations.{printed-variable, printed-element}
 use Rattle.c_print.proofs.Betweens.{between-more}
-use Rattle.print_law.proofs.Plain.{plain, plain-up, up}
-use Rattle.print_law.proofs.Items.{Item, Gap, Is, here, later, spotted, after, bare, joins, joint, tokens-placed}
-use Rattle.print_law.proofs.Expressions.{binds, expr_items, expr_tree, expr-told, expr-derived, ident_at}
+use Rattle.print_law.proofs.Plain.{plain, plain-up}
+use Rattle.print_law.proofs.Items.{Item, Gap, Is, here, later, spotted, after, joint, tokens-placed}
+use Rattle.print_law.proofs.Expressions.{expr_items, expr_tree, expr-told, expr-derived, ident_at}
 use Rattle.print_law.proofs.Texts.{spelled, spelled-append, spelled-closed, expr-text}
 use Rattle.print_law.proofs.Apart.{fits, ends, Fits, both, fits-then, open-fits, begins-append, closed-paren, closed-bracket, name-fits, Phrase, expr-phrase}
 

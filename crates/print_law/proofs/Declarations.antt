@@ -1,7 +1,7 @@
 -- What the file of a program declares, part by part.
-use Rattle.std.proofs.Common.{◌≡◌, ℕ, suc, pos, ◌+◌, ◌==◌, Bool, true, false, not, ◌&&◌, ◌||◌, List, [], ◌∷◌, ◌++◌, map, length, Option, Some, None, append_assoc, append-nil, refl, ap, sym, ◌∙◌, subst, codes, arith, true≢false, if◌then◌else◌}
+use Rattle.std.proofs.Common.{◌≡◌, ℕ, suc, pos, ◌+◌, Bool, true, false, ◌||◌, List, [], ◌∷◌, ◌++◌, map, length, Some, append-nil, refl, ap, sym, ◌∙◌, subst, codes, if◌then◌else◌}
 use Rattle.std.proofs.lemmas.Bool.{and_parts}
-use Rattle.std.specs.List.{list_all, list_any}
+use Rattle.std.specs.List.{list_all}
 use Rattle.std.specs.Str.{bytes_eq}
 use Rattle.cfix_base.specs.declared.number.OrderId.{OrderId}
 use Rattle.cfix_base.specs.declared.spot.Spot.{Spot}
@@ -15,19 +15,18 @@ use Rattle.c_prog.specs.declared.tree.Tree.{Tree}
 use Rattle.c_prog.specs.Patched.{tree_patched}
 use Rattle.c_prog.specs.Valid.Functions.{is_valid_count}
 use Rattle.c_prog.specs.Valid.Kinds.{global_var_kind}
-use Rattle.c_grammar.specs.Reader.{each, maybe}
+use Rattle.c_grammar.specs.Reader.{maybe}
 use Rattle.c_grammar.specs.File as f
 use Rattle.c_grammar.specs.Token.{Ident}
-use Rattle.c_print.specs.Text.Names.{name_at, names_in}
+use Rattle.c_print.specs.Text.Names.{names_in}
 use Rattle.c_names.specs.Uses as n
-use Rattle.c_names.specs.Scopes.{listed}
 use Rattle.c_names.specs.Declarations.{head_name, head_kind, Parameter, param_of, params_of, head_params, Declaration, declarations_from, declarations, first_meaning, form_or, first_form, is_number, is_defined_in, names_of}
 use Rattle.c_names.specs.Files.{param_text}
-use Rattle.print_law.proofs.Items.{Item, here, later, after, after-append}
+use Rattle.print_law.proofs.Items.{here, later, after, after-append}
 use Rattle.print_law.proofs.Parts.{Part, Empty, One, parts_items, parts_tree}
-use Rattle.print_law.proofs.Files.{start_name, start_line, start_parts, own_parts, own_line, own_tree, include_line, global_line, global_tree, prototype_line, function_items, header_parts, global_parts, prototype_by, prototype_parts, function_part, function_parts, spaced_parts, tree_parts, param_at, more_params_tree, params_tree, head_tree}
+use Rattle.print_law.proofs.Files.{start_name, start_line, start_parts, own_parts, own_line, own_tree, include_line, global_line, global_tree, prototype_line, function_items, header_parts, global_parts, prototype_by, prototype_parts, function_parts, spaced_parts, tree_parts, more_params_tree, params_tree, head_tree}
 use Rattle.print_law.proofs.Programs.{one-param}
-use Rattle.print_law.proofs.Tables.{Entry, starts_table, own_table, globals_table, functions_table, file_table, tree_table, lookup, form_in, defined_in, Means}
+use Rattle.print_law.proofs.Tables.{Entry, starts_table, own_table, globals_table, functions_table, tree_table, lookup, form_in, defined_in, Means}
 
 -- the tree of parts one behind another
 

@@ -1,17 +1,17 @@
 -- The canonical grammar tree of an expression, and its tokens.
-use Rattle.std.proofs.Common.{◌≡◌, ℕ, suc, ◌+◌, ◌<◌, ◌≤◌, nat_lt, Bool, true, false, ◌&&◌, List, [], ◌∷◌, ◌++◌, Option, Some, None, refl, ap, sym, ◌∙◌, arith, codes}
+use Rattle.std.proofs.Common.{◌≡◌, ℕ, suc, ◌+◌, ◌≤◌, nat_lt, Bool, true, false, ◌&&◌, List, [], ◌∷◌, ◌++◌, Some, refl, ap, arith}
 use Rattle.std.proofs.lemmas.Bool.{ltb-false, le-leb, lt-ltb}
 use Rattle.cfix_base.specs.declared.spot.Spot.{Spot}
 use Rattle.c_prog.specs.declared.expr.BinOp.{BinOp}
 use Rattle.c_prog.specs.declared.expr.BinOp.TheVariants as op
 use Rattle.c_grammar.specs.declared.word.Word.TheVariants as w
 use Rattle.c_grammar.specs.declared.sign.Sign.TheVariants as s
-use Rattle.c_grammar.specs.Token.{Kind, IsName, IsNumber, IsWord, IsSign, Token, Ident}
+use Rattle.c_grammar.specs.Token.{IsName, IsNumber, IsWord, IsSign, Ident}
 use Rattle.c_grammar.specs.Expr as g
 use Rattle.c_print.specs.Text.Names.{Names, name_at, var_name}
 use Rattle.c_print.specs.Text.Expressions.{binding}
 use Rattle.print_law.proofs.Plain.{Expr, Number, Variable, Element, Cast, Neg, Not, Binary}
-use Rattle.print_law.proofs.Items.{Item, Gap, Is, kinds, here, later, spotted, after, bare, joins}
+use Rattle.print_law.proofs.Items.{Item, Gap, Is, here, later, spotted, after, bare, joins}
 
 -- the operator of the grammar
 abbrev pub operator : BinOp → g.Binary

@@ -1,8 +1,8 @@
 -- The text of the parts of a program is the canonical text.
-use Rattle.std.proofs.Common.{◌≡◌, ℕ, suc, ℤ, pos, negsuc, Bool, true, false, ◌&&◌, List, [], ◌∷◌, ◌++◌, map, Option, Some, None, append_assoc, append-nil, refl, ap, sym, ◌∙◌, codes, arith, true≢false, if◌then◌else◌}
+use Rattle.std.proofs.Common.{◌≡◌, ℕ, pos, negsuc, Bool, true, false, List, [], ◌∷◌, ◌++◌, map, append_assoc, append-nil, refl, ap, sym, ◌∙◌, codes, arith, true≢false, if◌then◌else◌}
 use Rattle.std.proofs.lemmas.Bool.{and_parts}
 use Rattle.std.proofs.lemmas.Fmt.{decimal_digit}
-use Rattle.std.specs.Fmt.{decimal, signed_decimal}
+use Rattle.std.specs.Fmt.{decimal}
 use Rattle.std.specs.List.{list_all}
 use Rattle.std.specs.Str.{bytes_eq}
 use Rattle.cfix_base.specs.declared.number.OrderId.{OrderId}
@@ -16,22 +16,21 @@ use Rattle.c_prog.specs.declared.tree.Tree.{Tree}
 use Rattle.c_prog.specs.Order.{joined}
 use Rattle.c_prog.specs.Patched.{tree_patched}
 use Rattle.c_grammar.specs.declared.sign.Sign.TheVariants as s
-use Rattle.c_grammar.specs.Token.{IsSign, IsNumber}
-use Rattle.c_print.specs.Text.Names.{Names, name_at, names_in}
+use Rattle.c_grammar.specs.Token.{IsSign}
+use Rattle.c_print.specs.Text.Names.{name_at, names_in}
 use Rattle.c_print.specs.Text.Pieces as pieces
 use Rattle.c_print.specs.Text.Canonical as print
 use Rattle.c_print.specs.Text.Operations.{op_lines}
 use Rattle.c_print.specs.Text.Statements as statements
 use Rattle.c_print.proofs.Betweens.{between-more}
 use Rattle.print_law.proofs.Plain.{plain_body, plain_body-up}
-use Rattle.print_law.proofs.Items.{Item, Gap, Is}
+use Rattle.print_law.proofs.Items.{Gap, Is}
 use Rattle.print_law.proofs.Texts.{spelled, spelled-append, spelled-closed}
-use Rattle.print_law.proofs.Apart.{both}
 use Rattle.print_law.proofs.Operations.{ops_lines, ops-text}
-use Rattle.print_law.proofs.Lines.{Line, braced, texts, texts-append, texts-braced}
+use Rattle.print_law.proofs.Lines.{texts, texts-append, texts-braced}
 use Rattle.print_law.proofs.StatementLines.{stmts_lines, stmts-text, all_formed}
 use Rattle.print_law.proofs.Parts.{Part, Empty, One, part_lines, parts_lines}
-use Rattle.print_law.proofs.Files.{start_line, global_line, head_items, params_items, more_params_items, prototype_line, prototype_by, function_lines, function_part, body_lines, start_parts, own_parts, header_parts, global_parts, prototype_parts, function_parts, spaced_parts, tree_parts}
+use Rattle.print_law.proofs.Files.{start_line, global_line, head_items, params_items, more_params_items, prototype_by, function_lines, body_lines, start_parts, own_parts, header_parts, global_parts, prototype_parts, function_parts, spaced_parts, tree_parts}
 
 lines-append : (ps qs : List Part) → parts_lines (ps ++ qs) ≡ parts_lines ps ++ parts_lines qs
 lines-append [] qs = refl

@@ -1,12 +1,11 @@
 -- The parts of the canonical text of a program.
-use Rattle.std.proofs.Common.{◌≡◌, ℕ, suc, ℤ, pos, negsuc, ◌+◌, ◌<◌, ◌≤◌, eqb, Bool, true, false, not, ◌&&◌, List, [], ◌∷◌, ◌++◌, map, Option, Some, None, append_assoc, append-nil, refl, ap, sym, ◌∙◌, subst, codes, arith, if◌then◌else◌}
+use Rattle.std.proofs.Common.{◌≡◌, ℕ, suc, ℤ, pos, negsuc, eqb, Bool, true, false, ◌&&◌, List, [], ◌∷◌, ◌++◌, Option, Some, None, append_assoc, append-nil, refl, ap, sym, ◌∙◌, subst, codes, arith}
 use Rattle.std.proofs.lemmas.Bool.{eq-eqb, eqb-true, and_parts}
 use Rattle.std.proofs.lemmas.Fmt.{decimal_digit}
 use Rattle.std.specs.Fmt.{decimal}
 use Rattle.std.specs.List.{list_all, count_by}
 use Rattle.std.specs.Str.{bytes_eq}
 use Rattle.cfix_base.specs.declared.number.OrderId.{OrderId}
-use Rattle.cfix_base.specs.declared.op.Op.{Op}
 use Rattle.cfix_base.specs.declared.spot.Spot.{Spot}
 use Rattle.c_lex.specs.Bytes.{is_line_feed}
 use Rattle.c_lex.specs.Faults.{spot_behind}
@@ -17,7 +16,6 @@ use Rattle.c_prog.specs.declared.global.Global.{Global}
 use Rattle.c_prog.specs.declared.global.GlobalKind.{GlobalKind}
 use Rattle.c_prog.specs.declared.global.GlobalKind.TheVariants as kind
 use Rattle.c_prog.specs.declared.tree.Tree.{Tree}
-use Rattle.c_prog.specs.Order.{joined}
 use Rattle.c_prog.specs.Patched.{tree_patched}
 use Rattle.c_grammar.specs.declared.sign.Sign.TheVariants as s
 use Rattle.c_grammar.specs.declared.word.Word.{Word}
@@ -29,16 +27,16 @@ use Rattle.c_grammar.specs.Stmt as t
 use Rattle.c_grammar.specs.File as f
 use Rattle.c_grammar.specs.Reader.{tokens, each}
 use Rattle.c_print.specs.Text.Names.{Names, name_at, names_in}
-use Rattle.print_law.proofs.Plain.{Stmts, plain_body}
+use Rattle.print_law.proofs.Plain.{plain_body}
 use Rattle.print_law.proofs.Items.{Item, Gap, Is, kinds, here, later, marked, spotted, after, joint}
 use Rattle.print_law.proofs.Expressions.{ident_at}
 use Rattle.print_law.proofs.Texts.{spelled, kind_text}
-use Rattle.print_law.proofs.Apart.{fits, ends, Fits, both, fits-then, closed-paren, closed-bracket, name-fits}
+use Rattle.print_law.proofs.Apart.{fits, ends, Fits, both, fits-then, closed-paren}
 use Rattle.print_law.proofs.Operations.{ops_items, ops_lines, ops_tree, ops-told}
-use Rattle.print_law.proofs.Lines.{Line, Hold, hold-append, hold-braced, braced, texts, all_fit, all_fit-append, all_fit-braced}
+use Rattle.print_law.proofs.Lines.{Line, Hold, hold-append, hold-braced, braced, all_fit, all_fit-append, all_fit-braced}
 use Rattle.print_law.proofs.Statements.{stmts_items, stmts_tree, stmts-told, stmts-derived}
 use Rattle.print_law.proofs.StatementLines.{stmts_lines, hold-ops, hold-stmts, stmts-fit, ops-fit}
-use Rattle.print_law.proofs.Parts.{line_spots, lines_text, spots_of, Part, Empty, One, line_behind, Law, Lawful, AllLawful, lawful-append, counted}
+use Rattle.print_law.proofs.Parts.{line_spots, spots_of, Part, Empty, One, line_behind, Law, AllLawful, lawful-append, counted}
 
 -- includes and defines
 

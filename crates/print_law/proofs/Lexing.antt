@@ -1,7 +1,6 @@
 -- Items that stand apart are read again as their tokens.
-use Rattle.std.proofs.Common.{◌≡◌, ℕ, ℤ, pos, negsuc, suc, ◌^◌, ◌<◌, ◌≤◌, eqb, leb, int_le, Bool, true, false, not, ◌&&◌, ◌||◌, List, [], ◌∷◌, ◌++◌, map, Option, Some, None, append_assoc, append-nil, refl, ap, sym, ◌∙◌, subst, arith, true≢false, if◌then◌else◌}
-use Rattle.std.proofs.lemmas.Bool.{and_parts, or_parts, eqb-true, not-true, leb-true, le-leb}
-use Rattle.std.proofs.lemmas.Bool.Decides.{nat_tests}
+use Rattle.std.proofs.Common.{◌≡◌, ℕ, ℤ, pos, negsuc, ◌^◌, ◌<◌, ◌≤◌, eqb, int_le, Bool, true, false, not, ◌&&◌, List, [], ◌∷◌, ◌++◌, map, Option, Some, None, append_assoc, append-nil, refl, ap, sym, ◌∙◌, subst, arith, true≢false, if◌then◌else◌}
+use Rattle.std.proofs.lemmas.Bool.{and_parts, eqb-true, not-true, leb-true, le-leb}
 use Rattle.std.specs.Fmt as fmt
 use Rattle.std.specs.List.{list_all}
 use Rattle.std.specs.Char.{is_ascii_digit}
@@ -13,29 +12,29 @@ use Rattle.c_grammar.specs.declared.word.Word.{Word}
 use Rattle.c_grammar.specs.declared.word.Word.TheVariants as w
 use Rattle.c_grammar.specs.Reader.{first}
 use Rattle.c_grammar.specs.Spelling.{word_text, sign_text}
-use Rattle.c_grammar.specs.Token.{Kind, IsName, IsNumber, IsQuoted, IsWord, IsOther, IsSign, Token}
+use Rattle.c_grammar.specs.Token.{Kind, IsName, IsNumber, IsQuoted, IsWord, IsOther, IsSign}
 use Rattle.c_grammar.proofs.Spelling.{word_spelled, sign_spelled}
 use Rattle.c_lex.specs.declared.token.Kind as lexed_kind
 use Rattle.c_lex.specs.declared.token.Kind.TheVariants as k
 use Rattle.c_lex.specs.declared.token.Token as lexed
-use Rattle.c_lex.specs.Bytes.{is_blank, is_sign, is_numeral}
-use Rattle.c_lex.specs.Pieces.{Piece, Blank, Identifier, Numeral, Literal, Punctuator, spelling, is_piece, characters_spelled, is_character}
+use Rattle.c_lex.specs.Bytes.{is_sign, is_numeral}
+use Rattle.c_lex.specs.Pieces.{Piece, Blank, Identifier, Numeral, Literal, Punctuator, spelling, is_piece}
 use Rattle.c_lex.specs.Division.{Divides}
-use Rattle.c_lex.specs.Meaning.{Verdict, Between, Counts, Refuses, verdict, is_number, is_value, decimal}
-use Rattle.c_lex.specs.Faults.{spot_behind, tokens_behind, tokens_of, token_of}
+use Rattle.c_lex.specs.Meaning.{Counts, verdict, is_number, decimal}
+use Rattle.c_lex.specs.Faults.{spot_behind, tokens_behind, token_of}
 use Rattle.c_lex.specs.Reading.{pieces_at}
-use Rattle.c_lex.proofs.Again.{IsFirst, again, blank_first, begins_by, identifier_first, numeral_first, literal_first, two_first, goes_on, one_first}
-use Rattle.c_lex.proofs.Classes.{start_is_byte, digit_is_byte, is_no_comment}
+use Rattle.c_lex.proofs.Again.{IsFirst, again, blank_first, begins_by, identifier_first, numeral_first, literal_first, two_first, one_first}
+use Rattle.c_lex.proofs.Classes.{start_is_byte, digit_is_byte}
 use Rattle.c_lex.proofs.Divisions.{divides}
 use Rattle.c_names.specs.Texts.{kind_read, token_read, tokens_read, is_known, DividesInto}
 use Rattle.c_print.specs.Text.Pieces as pieces
 use Rattle.c_prog.specs.Order.{joined}
 use Rattle.c_prog.specs.Valid.Expressions as valid
 use Rattle.c_prog.specs.Valid.Strings.{is_string}
-use Rattle.print_law.proofs.Items.{Item, Gap, Is, kinds, marked, marked-append, beyond}
+use Rattle.print_law.proofs.Items.{Item, Gap, Is, kinds, marked, marked-append}
 use Rattle.print_law.proofs.Texts.{kind_text, item_text, spelled}
-use Rattle.print_law.proofs.Apart.{sign_stands, sign_before, shuts, stands, apart, fits, both}
-use Rattle.print_law.proofs.Lines.{Line, line_kinds, texts, all_fit}
+use Rattle.print_law.proofs.Apart.{sign_stands, shuts, apart, fits, both}
+use Rattle.print_law.proofs.Lines.{Line, line_kinds, all_fit}
 use Rattle.print_law.proofs.Parts.{line_spots, spots_of, lines_text, beyond-line}
 use Rattle.print_law.proofs.Decimals.{Written, written}
 use Rattle.print_law.proofs.Quotes.{characters_of, quote-spelled, quote-known, quote-value}

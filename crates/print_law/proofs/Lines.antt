@@ -1,9 +1,8 @@
 -- Lines of items.
-use Rattle.std.proofs.Common.{◌≡◌, ℕ, Bool, true, ◌&&◌, List, [], ◌∷◌, ◌++◌, map, Option, None, append_assoc, refl, ap, sym, ◌∙◌}
+use Rattle.std.proofs.Common.{◌≡◌, ℕ, Bool, true, ◌&&◌, List, [], ◌∷◌, ◌++◌, map, None, append_assoc, refl, ap, sym, ◌∙◌}
 use Rattle.std.proofs.lemmas.Bool.{and_parts}
 use Rattle.c_grammar.specs.declared.sign.Sign.TheVariants as s
 use Rattle.c_grammar.specs.Token.{IsSign, Kind}
-use Rattle.c_prog.specs.Order.{joined}
 use Rattle.c_print.specs.Text.Pieces as pieces
 use Rattle.print_law.proofs.Items.{Item, Gap, Is, kinds, kinds-append}
 use Rattle.print_law.proofs.Texts.{spelled, spelled-append, spelled-closed}

@@ -1,6 +1,6 @@
 -- What the names of the canonical text mean: the variables and functions that they are the names of.
-use Rattle.std.proofs.Common.{◌≡◌, ℕ, zero, suc, ◌==◌, nat_eq, eqb, Bool, true, false, not, ◌&&◌, ◌||◌, List, [], ◌∷◌, ◌++◌, length, Option, Some, None, option_map, slice_get, find, cond, refl, ap, sym, ◌∙◌, subst, true≢false, if◌then◌else◌}
-use Rattle.std.proofs.lemmas.Bool.{and_parts, or_parts, eqb-true, not-true}
+use Rattle.std.proofs.Common.{◌≡◌, ℕ, ◌==◌, Bool, true, false, not, ◌&&◌, ◌||◌, List, [], ◌∷◌, ◌++◌, Option, Some, None, option_map, slice_get, find, cond, refl, ap, sym, ◌∙◌, subst, true≢false, if◌then◌else◌}
+use Rattle.std.proofs.lemmas.Bool.{and_parts, eqb-true, not-true}
 use Rattle.std.proofs.lemmas.Slice.Eq.{bytes_eq-Decides}
 use Rattle.std.specs.List.{list_any, list_all}
 use Rattle.std.specs.Str.{bytes_eq}

@@ -1,5 +1,5 @@
 -- Inserted operations and conditions: their items, and their trees.
-use Rattle.std.proofs.Common.{◌≡◌, ℕ, suc, pos, true, List, [], ◌∷◌, ◌++◌, map, Option, Some, None, append_assoc, append-nil, refl, ap, sym, ◌∙◌, codes, arith}
+use Rattle.std.proofs.Common.{◌≡◌, ℕ, suc, pos, true, List, [], ◌∷◌, ◌++◌, map, Option, append_assoc, refl, ap, sym, ◌∙◌, codes, arith}
 use Rattle.std.proofs.lemmas.Fmt.{decimal_digit}
 use Rattle.cfix_base.specs.declared.op.Op.{Op}
 use Rattle.cfix_base.specs.declared.op.Op.TheVariants.{Leave, First, Done, Wait, Enter, Add}
@@ -10,7 +10,7 @@ use Rattle.c_prog.specs.Order.{joined}
 use Rattle.c_prog.specs.Valid.Operations.{op_number}
 use Rattle.c_grammar.specs.declared.sign.Sign.{Sign}
 use Rattle.c_grammar.specs.declared.sign.Sign.TheVariants as s
-use Rattle.c_grammar.specs.Token.{IsNumber, IsWord, IsSign, Mark, sign}
+use Rattle.c_grammar.specs.Token.{IsNumber, IsWord, IsSign, sign}
 use Rattle.c_grammar.specs.Expr as g
 use Rattle.c_grammar.specs.Op as o
 use Rattle.c_grammar.specs.Cond as c
@@ -18,14 +18,13 @@ use Rattle.c_grammar.specs.Spelling.{sign_text}
 use Rattle.c_grammar.specs.Reader.{tokens, first, each}
 use Rattle.c_print.specs.Text.Names.{Names}
 use Rattle.c_print.specs.Text.Pieces.{between, ended, in_parentheses}
-use Rattle.c_print.specs.Text.Expressions.{expr_text}
 use Rattle.c_print.specs.Text.Operations.{op_text, op_lines, valued, with_true, with_false, cond_text}
 use Rattle.c_print.proofs.Betweens.{between-behind}
 use Rattle.print_law.proofs.Plain.{plain}
-use Rattle.print_law.proofs.Items.{Item, Gap, Is, kinds, here, later, spotted, after, bare, joins, joint, tokens-placed}
+use Rattle.print_law.proofs.Items.{Item, Gap, Is, here, later, spotted, after, bare, joins, joint, tokens-placed}
 use Rattle.print_law.proofs.Expressions.{expr-told}
 use Rattle.print_law.proofs.Texts.{spelled, spelled-append, spelled-closed}
-use Rattle.print_law.proofs.Apart.{fits, ends, Fits, both, fits-then, open-fits, begins-append, closed-paren, Phrase, expr-phrase}
+use Rattle.print_law.proofs.Apart.{fits, ends, fits-then, open-fits, begins-append, closed-paren, Phrase, expr-phrase}
 use Rattle.print_law.proofs.Calls.{items_of, tree_of, text-of, derived-of}
 
 -- operations

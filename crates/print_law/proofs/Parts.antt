@@ -1,19 +1,19 @@
 -- What a file is made of, from its lines: empty lines, and parts that each are an include, a define, a variable, a prototype or a function.
-use Rattle.std.proofs.Common.{◌≡◌, ℕ, ◌+◌, ◌<◌, ◌≤◌, ltb, eqb, Bool, true, false, ◌&&◌, List, [], ◌∷◌, ◌++◌, map, length, Option, Some, None, append_assoc, append-nil, refl, ap, sym, ◌∙◌, arith, cond, length-append}
-use Rattle.std.proofs.lemmas.Bool.{lt-ltb, eq-eqb}
+use Rattle.std.proofs.Common.{◌≡◌, ℕ, ◌+◌, ◌<◌, ◌≤◌, true, List, [], ◌∷◌, ◌++◌, length, Option, Some, None, append_assoc, append-nil, refl, ap, sym, ◌∙◌, arith, cond, length-append}
+use Rattle.std.proofs.lemmas.Bool.{lt-ltb}
 use Rattle.std.proofs.lemmas.List.Sums.{sum_by-append}
-use Rattle.std.specs.List.{list_all, count_by}
+use Rattle.std.specs.List.{count_by}
 use Rattle.cfix_base.specs.declared.spot.Spot.{Spot}
 use Rattle.c_lex.specs.Bytes.{is_line_feed}
 use Rattle.c_lex.specs.Faults.{spot_behind}
-use Rattle.c_grammar.specs.Token.{Kind, Token, Mark}
-use Rattle.c_grammar.specs.Reader.{tokens, head, first}
+use Rattle.c_grammar.specs.Token.{Kind, Token}
+use Rattle.c_grammar.specs.Reader.{tokens, head}
 use Rattle.c_grammar.specs.File as f
 use Rattle.c_print.specs.Text.Pieces as pieces
-use Rattle.print_law.proofs.Items.{Item, Gap, Is, kinds, kinds-append, here, later, marked, marked-append, beyond, beyond-append, spotted, after, tokens-append}
+use Rattle.print_law.proofs.Items.{Item, Gap, Is, kinds, kinds-append, marked, marked-append, beyond, beyond-append, spotted, after, tokens-append}
 use Rattle.print_law.proofs.Texts.{spelled, kind_text}
 use Rattle.print_law.proofs.Apart.{both}
-use Rattle.print_law.proofs.Lines.{Line, line_kinds, line_kinds-append, Hold, hold-append, texts, texts-append, all_fit, all_fit-append}
+use Rattle.print_law.proofs.Lines.{Line, line_kinds, Hold, hold-append, texts, all_fit, all_fit-append}
 
 -- the spots of the tokens of a line that stands behind the bytes `before`
 abbrev pub line_spots : List ℕ → Line → List Spot

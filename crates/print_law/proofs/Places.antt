@@ -1,5 +1,5 @@
 -- The scopes of a canonical body: what its statements declare, and where their names stand among the names of the locals.
-use Rattle.std.proofs.Common.{◌≡◌, ℕ, suc, ◌+◌, Bool, true, false, ◌&&◌, List, [], ◌∷◌, ◌++◌, map, length, length-append, Option, Some, None, slice_get, append_assoc, not, refl, ap, sym, ◌∙◌, subst, arith, true≢false}
+use Rattle.std.proofs.Common.{◌≡◌, ℕ, ◌+◌, Bool, true, false, ◌&&◌, List, [], ◌∷◌, ◌++◌, map, length, length-append, Option, Some, None, slice_get, append_assoc, not, refl, ap, sym, ◌∙◌, subst, arith, true≢false}
 use Rattle.std.proofs.lemmas.Bool.{and_parts}
 use Rattle.cfix_base.specs.declared.op.Op.{Op}
 use Rattle.cfix_base.specs.declared.spot.Spot.{Spot}
@@ -17,7 +17,7 @@ use Rattle.c_prog.specs.declared.stmt.Jump.{Jump}
 use Rattle.c_prog.specs.declared.stmt.Step.{Step}
 use Rattle.c_prog.specs.declared.stmt.Stmt.TheOpen.{Stmt-F}
 use Rattle.c_prog.specs.Order.{joined}
-use Rattle.c_prog.specs.Valid.Scope.{Scope, Local, visible, declared, entered, passed, is_in_block}
+use Rattle.c_prog.specs.Valid.Scope.{Scope, visible, declared, entered, passed, is_in_block}
 use Rattle.c_prog.specs.Valid.Kinds.{File, local_var_kind}
 use Rattle.c_prog.specs.Valid.Expressions as valid
 use Rattle.c_prog.specs.Valid.Acts.{is_declared_name, is_valid_kind, is_valid_initial, is_valid_assigned, is_valid_act, is_step}
@@ -26,15 +26,15 @@ use Rattle.c_prog.proofs.ValidEquations.{part-Simple, part-Jump, part-If, part-L
 use Rattle.c_grammar.specs.Stmt as t
 use Rattle.c_print.specs.Text.Names.{Names, name_at, or_nothing, act_names, step_names, declared_names}
 use Rattle.c_print.proofs.TextEquations.{names-Simple, names-Jump, names-If, names-Loop, names-Block}
-use Rattle.c_names.specs.Scopes.{stmt_locals, else_locals, items_locals, item_locals, item_after, with_locals, decl_declared}
+use Rattle.c_names.specs.Scopes.{stmt_locals, else_locals, items_locals, item_locals, item_after}
 use Rattle.print_law.proofs.Plain.{Stmt, Simple, Jumps, If, Loop, Block, Stmts, NoStmts, And, up_stmt, up_stmts}
 use Rattle.print_law.proofs.Items as items
 use Rattle.print_law.proofs.Apart.{both}
 use Rattle.print_law.proofs.Simples.{made_item, act_items, act_made, act_form, has_form, is_set}
 use Rattle.print_law.proofs.Operations.{ops_tree, cond_items}
-use Rattle.print_law.proofs.Statements.{is_lone, step_items, stmt_in, stmt_items, stmts_items, else_items, stmt_tree, stmts_tree, else_tree, else_tree_by, if_tree, loop_tree, behind_cond, block_with, lone-does}
+use Rattle.print_law.proofs.Statements.{is_lone, step_items, stmt_in, stmt_items, stmts_items, stmt_tree, stmts_tree, else_tree, else_tree_by, if_tree, loop_tree, behind_cond, block_with, lone-does}
 use Rattle.print_law.proofs.StatementLines.{formed, all_formed, formed_step}
-use Rattle.print_law.proofs.Meanings.{LocalFact, AllKnown}
+use Rattle.print_law.proofs.Meanings.{AllKnown}
 
 -- the names that statements declare, in the order of the text
 abbrev mutual

@@ -1,8 +1,8 @@
 -- The canonical text of a valid tree divides into the tokens of its file.
-use Rattle.std.proofs.Common.{◌≡◌, ℕ, suc, ℤ, pos, negsuc, ◌+◌, ◌^◌, ◌<◌, ◌≤◌, ◌==◌, nat_le, int_le, Bool, true, false, not, ◌&&◌, ◌||◌, List, [], ◌∷◌, ◌++◌, map, length, Option, Some, None, slice_get, append_assoc, refl, ap, sym, ◌∙◌, subst, codes, arith, true≢false}
+use Rattle.std.proofs.Common.{◌≡◌, ℕ, suc, ℤ, pos, negsuc, ◌^◌, ◌<◌, ◌≤◌, ◌==◌, nat_le, int_le, Bool, true, false, ◌&&◌, List, [], ◌∷◌, ◌++◌, map, length, append_assoc, refl, ap, sym, ◌∙◌, subst, codes, arith, true≢false}
 use Rattle.std.proofs.lemmas.Bool.{and_parts, leb-true, le-leb, eqb-true}
 use Rattle.std.specs.Fmt as fmt
-use Rattle.std.specs.List.{list_all, list_any}
+use Rattle.std.specs.List.{list_all}
 use Rattle.std.specs.Char.{is_ascii_digit}
 use Rattle.std.specs.Str.{bytes_eq}
 use Rattle.cfix_base.specs.Words.{is_name_text, is_name_byte}
@@ -18,20 +18,20 @@ use Rattle.c_prog.specs.declared.global.GlobalKind.TheVariants as kind
 use Rattle.c_prog.specs.declared.tree.Tree.{Tree}
 use Rattle.c_prog.specs.Patched.{tree_patched}
 use Rattle.c_prog.specs.Valid.{IsValid, has_valid_function_ops}
-use Rattle.c_prog.specs.Valid.Scope.{Scope, visible, nothing_declared}
+use Rattle.c_prog.specs.Valid.Scope.{nothing_declared}
 use Rattle.c_prog.specs.Valid.Kinds.{File, file_of}
 use Rattle.c_prog.specs.Valid.Acts.{is_declared_name}
-use Rattle.c_prog.specs.Valid.Functions.{are_declared_names, are_distinct, file_names, is_initial_number, is_valid_global, param_kind, with_params, body_scope, is_valid_count, body_around, is_valid_body, is_valid_end, is_valid_function}
-use Rattle.c_prog.specs.Valid.Operations.{are_valid_ops, have_valid_ops, are_rising, are_valid_starts}
-use Rattle.c_prog.specs.Valid.Statements.{Around, all_valid, parts_of}
+use Rattle.c_prog.specs.Valid.Functions.{are_declared_names, are_distinct, is_initial_number, is_valid_global, param_kind, body_scope, is_valid_count, body_around, is_valid_body, is_valid_end, is_valid_function}
+use Rattle.c_prog.specs.Valid.Operations.{are_valid_ops, have_valid_ops, are_rising}
+use Rattle.c_prog.specs.Valid.Statements.{all_valid, parts_of}
 use Rattle.c_grammar.specs.declared.sign.Sign.TheVariants as s
 use Rattle.c_grammar.specs.File as f
-use Rattle.c_grammar.specs.Token.{Kind, IsName, IsNumber, IsSign}
+use Rattle.c_grammar.specs.Token.{Kind, IsSign}
 use Rattle.c_names.specs.Texts.{DividesInto}
 use Rattle.c_names.specs.Uses as n
-use Rattle.c_print.specs.Text.Names.{Names, name_at, or_nothing, names_in}
+use Rattle.c_print.specs.Text.Names.{name_at, names_in}
 use Rattle.c_print.specs.Text.Canonical.{canonical}
-use Rattle.print_law.proofs.Plain.{Stmts, plain_body, plain_body-up, up_stmts}
+use Rattle.print_law.proofs.Plain.{plain_body, plain_body-up, up_stmts}
 use Rattle.print_law.proofs.Items.{Item, Gap, Is, kinds, marked}
 use Rattle.print_law.proofs.Apart.{both}
 use Rattle.print_law.proofs.Operations.{ops_items}
@@ -39,16 +39,16 @@ use Rattle.print_law.proofs.Lines.{Line, line_kinds, Hold}
 use Rattle.print_law.proofs.Statements.{stmts_items}
 use Rattle.print_law.proofs.StatementLines.{all_formed}
 use Rattle.print_law.proofs.Parts.{Part, Empty, One, parts_lines, parts_items, parts_tree, spots_of, lines_text, parts-told, parts-hold, parts-fit, parts-good}
-use Rattle.print_law.proofs.Files.{initial_items, global_line, length_line, params_items, more_params_items, plain_head_items, head_items, prototype_line, prototype_by, body_items, function_items, function_part, start_name, start_parts, own_parts, header_parts, global_parts, prototype_parts, function_parts, spaced_parts, tree_parts, AreQuiet, tree-lawful}
+use Rattle.print_law.proofs.Files.{initial_items, global_line, params_items, more_params_items, head_items, prototype_line, prototype_by, body_items, function_items, start_name, start_parts, own_parts, header_parts, global_parts, prototype_parts, function_parts, spaced_parts, tree_parts, AreQuiet, tree-lawful}
 use Rattle.print_law.proofs.FileText.{formed_function, tree-text}
-use Rattle.print_law.proofs.Decimals.{Written, written, quiet-digits, all-append}
+use Rattle.print_law.proofs.Decimals.{written, quiet-digits}
 use Rattle.print_law.proofs.Lexing.{kind_ok, items_ok, lines_ok, lines-divided}
-use Rattle.print_law.proofs.Meanings.{FileFacts, AllKnown, declared-name}
+use Rattle.print_law.proofs.Meanings.{declared-name}
 use Rattle.print_law.proofs.SpeltExpressions.{ok-append}
 use Rattle.print_law.proofs.SpeltActs.{number-ok, ops-ok}
-use Rattle.print_law.proofs.Places.{all_names, stmts-formed, Place, place-left, place-right}
+use Rattle.print_law.proofs.Places.{all_names, stmts-formed, place-left, place-right}
 use Rattle.print_law.proofs.SpeltStatements.{SpeltStmts, spelt-stmts}
-use Rattle.print_law.proofs.Tables.{Entry, tree_table, known_in, Means, Names_ok, names-ok, file-facts, ParamsKnown, params-known, function-place, all-at}
+use Rattle.print_law.proofs.Tables.{Entry, tree_table, known_in, Means, Names_ok, names-ok, file-facts, params-known, function-place}
 
 -- lists
 

@@ -1,9 +1,9 @@
 -- Strings as they are written and read.
-use Rattle.std.proofs.Common.{◌≡◌, ℕ, eqb, Bool, true, false, ◌||◌, ◌&&◌, List, [], ◌∷◌, ◌++◌, map, refl, ap, sym, ◌∙◌, arith, if◌then◌else◌}
+use Rattle.std.proofs.Common.{◌≡◌, ℕ, eqb, Bool, true, false, List, [], ◌∷◌, ◌++◌, map, refl, ap, sym, ◌∙◌, arith, if◌then◌else◌}
 use Rattle.std.proofs.lemmas.Bool.{and_parts, eqb-true}
 use Rattle.std.proofs.lemmas.Bool.Decides.{nat_tests}
 use Rattle.std.specs.List.{list_all}
-use Rattle.c_lex.specs.Bytes.{is_plain, is_escape}
+use Rattle.c_lex.specs.Bytes.{is_plain}
 use Rattle.c_lex.specs.Pieces.{Character, Plain, Escape, characters_spelled, is_character}
 use Rattle.c_lex.specs.Meaning.{character_value}
 use Rattle.c_prog.specs.Order.{joined}

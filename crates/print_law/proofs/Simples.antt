@@ -1,10 +1,9 @@
 -- Simple statements: their items, and their trees.
-use Rattle.std.proofs.Common.{◌≡◌, ℕ, suc, pos, Bool, true, false, not, ◌&&◌, List, [], ◌∷◌, ◌++◌, map, Option, Some, None, append_assoc, append-nil, refl, ap, sym, ◌∙◌, codes, true≢false, arith}
+use Rattle.std.proofs.Common.{◌≡◌, ℕ, pos, Bool, true, false, List, [], ◌∷◌, ◌++◌, map, Option, Some, None, append_assoc, append-nil, refl, ap, sym, ◌∙◌, codes, true≢false}
 use Rattle.std.specs.Fmt.{decimal}
 use Rattle.cfix_base.specs.declared.spot.Spot.{Spot}
 use Rattle.c_prog.specs.declared.act.Act.{Act}
 use Rattle.c_prog.specs.declared.act.Act.TheVariants as act
-use Rattle.c_prog.specs.declared.act.CallForm.{CallForm}
 use Rattle.c_prog.specs.declared.act.How.{How}
 use Rattle.c_prog.specs.declared.act.How.TheVariants as how
 use Rattle.c_prog.specs.declared.act.LocalKind.{LocalKind}
@@ -19,13 +18,12 @@ use Rattle.c_grammar.specs.declared.sign.Sign.TheVariants as s
 use Rattle.c_grammar.specs.declared.word.Word.{Word}
 use Rattle.c_grammar.specs.declared.word.Word.TheVariants as w
 use Rattle.c_grammar.specs.Token.{IsName, IsNumber, IsQuoted, IsWord, IsSign, Mark, Numeral, Text, word, sign, ident, quoted}
-use Rattle.c_grammar.specs.Expr as g
 use Rattle.c_grammar.specs.Op.{Ops, ops_marks}
 use Rattle.c_grammar.specs.Simple as m
 use Rattle.c_grammar.specs.Decl as l
 use Rattle.c_grammar.specs.Stmt as t
 use Rattle.c_grammar.specs.Reader.{tokens, first}
-use Rattle.c_grammar.specs.Spelling.{sign_text, word_text}
+use Rattle.c_grammar.specs.Spelling.{sign_text}
 use Rattle.c_print.specs.Text.Names.{Names, name_at}
 use Rattle.c_print.specs.Text.Expressions.{thread_argument, target_text, expr_text}
 use Rattle.c_print.specs.Text.Acts.{local_text, initial_text, how_sign, act_text, value_text, call_text}
@@ -34,7 +32,7 @@ use Rattle.print_law.proofs.Items.{Item, Gap, Is, here, later, spotted, after, j
 use Rattle.print_law.proofs.Expressions.{ident_at}
 use Rattle.print_law.proofs.Texts.{spelled, spelled-append, spelled-closed}
 use Rattle.print_law.proofs.Apart.{apart, fits, ends, Fits, both, fits-then, closed-paren, closed-bracket, name-fits}
-use Rattle.print_law.proofs.Calls.{items_of, text-of, target_items, target_tree, target-told, target-derived, target-text, target-fits, more_items, more_tree, more-told, more-derived, more-text, more-fits, more-ends, call_items, call_tree, call-told, call-derived, call-text, call-fits, value_items, value_tree, value-told, value-derived, value-text, value-fits}
+use Rattle.print_law.proofs.Calls.{items_of, text-of, target_items, target_tree, target-told, target-derived, target-text, target-fits, more_items, more_tree, more-told, more-derived, more-text, more-fits, call_items, call_tree, call-told, call-derived, call-text, call-fits, value_items, value_tree, value-told, value-derived, value-text, value-fits}
 use Rattle.print_law.proofs.Acts.{argument_items, argument_tree, argument-told, argument-derived, argument-text, argument-fits, how-is, sign_for, assign_items, assign-fits, up-fits, down-fits, plain_items, plain_tree, plain-told, plain-derived, plain-fits}
 
 -- a declaration or another simple statement, before what ends it

@@ -1,5 +1,5 @@
 -- Operations, conditions and simple statements that keep the rules are spelled again by their trees.
-use Rattle.std.proofs.Common.{◌≡◌, ℕ, suc, ℤ, pos, negsuc, cond, ◌+◌, ◌==◌, ◌≤◌, nat_lt, nat_le, eqb, Bool, true, false, not, ◌&&◌, ◌||◌, List, [], ◌∷◌, ◌++◌, map, length, Option, Some, None, option_map, refl, ap, sym, ◌∙◌, subst, arith, codes, true≢false, if◌then◌else◌}
+use Rattle.std.proofs.Common.{◌≡◌, ℕ, suc, ℤ, pos, negsuc, cond, ◌+◌, ◌==◌, nat_lt, nat_le, Bool, true, false, not, ◌&&◌, ◌||◌, List, [], ◌∷◌, ◌++◌, length, Option, Some, None, option_map, refl, ap, sym, ◌∙◌, subst, arith, true≢false, if◌then◌else◌}
 use Rattle.std.proofs.lemmas.Bool.{and_parts, not-true, eqb-true, eq-eqb, le-leb}
 use Rattle.std.proofs.lemmas.List.Sums.{sum_by-append}
 use Rattle.std.specs.List.{list_all, list_any, count_by}
@@ -23,48 +23,44 @@ use Rattle.c_prog.specs.declared.expr.Expr.TheVariants as expr
 use Rattle.c_prog.specs.declared.expr.Target.{Target}
 use Rattle.c_prog.specs.declared.expr.Var.TheVariants as var
 use Rattle.c_prog.specs.declared.stmt.Cond.{Cond}
-use Rattle.c_prog.specs.Valid.Scope.{VarKind, int, mutex, Local, Scope, visible, local_named, is_in_block, declared}
+use Rattle.c_prog.specs.Valid.Scope.{VarKind, int, mutex, Scope, visible, local_named, is_in_block, declared}
 use Rattle.c_prog.specs.Valid.Kinds.{Signature, File, local_var_kind, kind_here, function_here}
 use Rattle.c_prog.specs.Valid.Expressions as valid
 use Rattle.c_prog.specs.Valid.Expressions.{is_valid_expr, is_mutex, is_thread_kind, is_int_use, is_thread_use}
-use Rattle.c_prog.specs.Valid.Acts.{is_declared_name, is_length, is_valid_kind, is_valid_initial, is_valid_declaration, is_valid_assigned, is_valid_act, is_step}
+use Rattle.c_prog.specs.Valid.Acts.{is_declared_name, is_valid_kind, is_valid_initial, is_valid_assigned, is_valid_act, is_step}
 use Rattle.c_prog.specs.Valid.Operations.{op_number, are_valid_ops, has_valid_cond}
-use Rattle.c_prog.specs.Valid.Strings.{directives, directives_left, paired, is_count, is_string}
+use Rattle.c_prog.specs.Valid.Strings.{directives, directives_left, is_count, is_string}
 use Rattle.c_print.proofs.TextEquations.{zero-Number, zero-Cast, zero-Read, zero-Neg, zero-Not, zero-Binary}
-use Rattle.c_print.specs.Text.Names.{Names, name_at, var_name}
+use Rattle.c_print.specs.Text.Names.{Names, name_at}
 use Rattle.c_print.specs.Text.Expressions.{is_zero}
 use Rattle.c_grammar.specs.declared.sign.Sign.{Sign}
 use Rattle.c_grammar.specs.declared.sign.Sign.TheVariants as s
-use Rattle.c_grammar.specs.Op as o
 use Rattle.c_grammar.specs.Expr as g
 use Rattle.c_grammar.specs.Simple as m
-use Rattle.c_grammar.specs.Decl as l
-use Rattle.c_grammar.specs.Cond as c
-use Rattle.c_grammar.specs.Reader.{each}
-use Rattle.c_grammar.specs.Token.{Ident, IsSign, IsNumber}
+use Rattle.c_grammar.specs.Token.{IsSign, IsNumber}
 use Rattle.c_names.specs.declared.fault.Fault.{Fault}
 use Rattle.c_names.specs.declared.fault.FaultKind.TheVariants.{Arity, WrongUse, Twice}
 use Rattle.c_names.specs.Faults.{fault_if}
 use Rattle.c_names.specs.Uses as n
 use Rattle.c_names.specs.Names.{reserved_faults, use_faults, declare_faults, length_faults}
 use Rattle.c_names.specs.Strings.{pairs_from, is_number_pair, is_other_pair, numbers_in, has_other}
-use Rattle.c_names.specs.Expressions.{expr_faults, exprs_faults, int_target_faults, thread_target_faults, call_faults, value_faults}
+use Rattle.c_names.specs.Expressions.{expr_faults, int_target_faults, thread_target_faults, call_faults, value_faults}
 use Rattle.c_names.specs.Simples.{op_faults, ops_faults, more_ops_faults, plain_faults, thread_arg_faults, is_thread_function_use, created_faults, mutex_faults, printf_faults, simple_faults}
 use Rattle.c_names.specs.Statements.{guard_faults, cond_faults, decl_faults}
-use Rattle.c_names.specs.SpelledExpressions.{expr_of, target_of, call_of, value_of, plain_of, thread_arg_of, simple_of}
+use Rattle.c_names.specs.SpelledExpressions.{expr_of, target_of, call_of, plain_of, thread_arg_of, simple_of}
 use Rattle.c_names.specs.SpelledStatements.{op_of, ops_of, more_ops_of, guard_of, cond_of, decl_of}
 use Rattle.print_law.proofs.Plain.{Expr, Number, Variable, Element, Cast, Neg, Not, Binary, plain, plain-up, up}
 use Rattle.print_law.proofs.Items.{Item, Gap, Is, here, later, after}
 use Rattle.print_law.proofs.Expressions.{ident_at}
 use Rattle.print_law.proofs.Apart.{both}
-use Rattle.print_law.proofs.Calls.{items_of, tree_of, target_items, target_tree, more_items, more_tree, call_items, call_tree, value_items, value_tree}
+use Rattle.print_law.proofs.Calls.{items_of, tree_of, target_items, target_tree, more_items, more_tree, call_tree, value_tree}
 use Rattle.print_law.proofs.Operations.{op_items, op_tree, ops_items, ops_tree, commas_items, commas_tree, guard_items, guard_tree, guarded_items, cond_items, cond_by, cond_tree}
 use Rattle.print_law.proofs.Acts.{argument_by, argument_items, argument_tree_by, argument_tree, assigned, plain_items, plain_tree}
-use Rattle.print_law.proofs.Simples.{Made, Declared, Simply, has_form, act_form, is_set, declared_items, declared_tree, act_items, act_made}
+use Rattle.print_law.proofs.Simples.{Made, Declared, Simply, act_form, act_items, act_made}
 use Rattle.print_law.proofs.Statements.{more_ops_items, more_ops_tree}
 use Rattle.print_law.proofs.Lexing.{kind_ok, items_ok}
-use Rattle.print_law.proofs.Meanings.{FileFacts, LocalFact, AllKnown, VarUse, use_for, var-use, function-use, declared-name, limits, limits-append, limit-if, no-fault, no-reserved}
-use Rattle.print_law.proofs.SpeltExpressions.{ok-append, name-alone, Spelt, spelt-of, spelt-operand, SpeltTarget, int-target, thread-target, SpeltMore, spelt-more, more-length, SpeltCall, spelt-call, SpeltValue, spelt-value, valued-clean}
+use Rattle.print_law.proofs.Meanings.{FileFacts, LocalFact, AllKnown, VarUse, var-use, function-use, declared-name, limits, limits-append, limit-if, no-fault, no-reserved}
+use Rattle.print_law.proofs.SpeltExpressions.{ok-append, name-alone, spelt-of, spelt-operand, int-target, thread-target, spelt-more, more-length, spelt-call, spelt-value, valued-clean}
 
 -- numbers that a text can have
 pub number-ok : (number : ℕ) → nat_le number 2147483647 ≡ true → kind_ok (IsNumber (pos number)) ≡ true

@@ -1,8 +1,7 @@
 -- Expressions, variables and calls that keep the rules are spelled again by their trees.
-use Rattle.std.proofs.Common.{◌≡◌, ℕ, suc, ℤ, pos, ◌+◌, ◌==◌, nat_lt, Bool, true, false, not, ◌&&◌, ◌||◌, List, [], ◌∷◌, ◌++◌, map, length, Option, Some, None, option_map, refl, ap, sym, ◌∙◌, subst, true≢false}
+use Rattle.std.proofs.Common.{◌≡◌, ℕ, suc, ◌+◌, ◌==◌, nat_lt, Bool, true, false, not, ◌&&◌, ◌||◌, List, [], ◌∷◌, ◌++◌, map, length, Option, Some, None, option_map, refl, ap, sym, ◌∙◌, subst, true≢false}
 use Rattle.std.proofs.lemmas.Bool.{and_parts, not-true}
 use Rattle.std.specs.List.{list_all}
-use Rattle.cfix_base.specs.Words.{is_name_text}
 use Rattle.cfix_base.specs.declared.spot.Spot.{Spot}
 use Rattle.c_prog.specs.declared.act.CallForm.{CallForm}
 use Rattle.c_prog.specs.declared.act.Value.{Value}
@@ -16,7 +15,7 @@ use Rattle.c_prog.specs.declared.expr.Var.{Var}
 use Rattle.c_prog.specs.declared.expr.Var.TheVariants as var
 use Rattle.c_prog.specs.declared.function.FnKind.{FnKind}
 use Rattle.c_prog.specs.declared.function.FnKind.TheVariants as fn_kind
-use Rattle.c_prog.specs.Valid.Scope.{VarKind, int, int_array, thread, thread_array, mutex, argument, Local, Scope, visible, local_named, local_here}
+use Rattle.c_prog.specs.Valid.Scope.{VarKind, int, int_array, thread, thread_array, argument, Scope, visible, local_named}
 use Rattle.c_prog.specs.Valid.Kinds.{Signature, File, kind_here, function_here}
 use Rattle.c_prog.specs.Valid.Expressions as valid
 use Rattle.c_prog.specs.Valid.Expressions.{is_valid_expr, is_int_use, is_thread_use, is_argument, is_callable, is_main_name, is_thread_kind, has_value, is_int_kind, is_void_kind}
@@ -34,14 +33,14 @@ use Rattle.c_print.specs.Text.Names.{Names, name_at, var_name}
 use Rattle.c_print.specs.Text.Expressions.{binding}
 use Rattle.c_names.specs.Uses as n
 use Rattle.c_names.specs.Names.{reserved_faults, use_faults}
-use Rattle.c_names.specs.Expressions.{is_read, is_element, is_cast, expr_faults, exprs_faults, index_faults, indexed, int_target_faults, thread_target_faults, args_list, is_root_name, callee_faults, count_faults, call_faults, is_void_use, valued_faults, value_faults}
+use Rattle.c_names.specs.Expressions.{is_read, is_element, is_cast, expr_faults, exprs_faults, index_faults, indexed, args_list, is_root_name, callee_faults, count_faults, call_faults, is_void_use, valued_faults, value_faults}
 use Rattle.c_names.specs.SpelledExpressions as spelled
 use Rattle.c_names.specs.SpelledExpressions.{expr_of, exprs_of, target_of, call_of, value_of}
 use Rattle.print_law.proofs.Plain.{Expr, Number, Variable, Element, Cast, Neg, Not, Binary, up, plain, plain-up}
 use Rattle.print_law.proofs.Items.{Item, Gap, Is, here, later, after}
 use Rattle.print_law.proofs.Expressions.{operator, binds, wrap, wrap_tree, binary_items, binary_tree, expr_items, expr_tree, ident_at}
 use Rattle.print_law.proofs.Apart.{both}
-use Rattle.print_law.proofs.Calls.{items_of, tree_of, index_items, target_items, index_tree, target_tree, more_items, args_items, more_tree, args_tree, call_items, call_tree, value_items, value_tree}
+use Rattle.print_law.proofs.Calls.{items_of, tree_of, target_items, target_tree, more_items, args_items, more_tree, args_tree, call_items, call_tree, value_items, value_tree}
 use Rattle.print_law.proofs.Lexing.{kind_ok, items_ok}
 use Rattle.print_law.proofs.Meanings.{FileFacts, AllKnown, VarUse, use_for, var-use, function-use, declared-name, limits, limits-append, limit-if, no-fault, no-reserved}
 

@@ -1,5 +1,5 @@
 -- Statements that keep the rules are spelled again by their trees.
-use Rattle.std.proofs.Common.{◌≡◌, ℕ, ◌+◌, Bool, true, false, not, ◌&&◌, ◌||◌, List, [], ◌∷◌, ◌++◌, length, Option, Some, None, append_assoc, refl, ap, sym, ◌∙◌, true≢false, if◌then◌else◌}
+use Rattle.std.proofs.Common.{◌≡◌, ℕ, ◌+◌, Bool, true, false, not, ◌&&◌, ◌||◌, List, [], ◌∷◌, ◌++◌, Option, Some, None, append_assoc, refl, ap, sym, ◌∙◌, true≢false, if◌then◌else◌}
 use Rattle.std.proofs.lemmas.Bool.{and_parts}
 use Rattle.cfix_base.specs.declared.op.Op.{Op}
 use Rattle.cfix_base.specs.declared.spot.Spot.{Spot}
@@ -33,22 +33,21 @@ use Rattle.c_names.specs.Returns.{is_null, bare_faults, returned_faults, jump_fa
 use Rattle.c_names.specs.Simples.{op_faults, ops_faults, more_ops_faults, plain_faults}
 use Rattle.c_names.specs.Expressions.{value_faults}
 use Rattle.c_names.specs.Scopes.{items_locals, item_after}
-use Rattle.c_names.specs.Statements.{cond_faults, step_faults, stmt_faults, else_faults, items_faults, item_faults}
+use Rattle.c_names.specs.Statements.{cond_faults, else_faults, items_faults, item_faults}
 use Rattle.c_names.specs.SpelledExpressions.{value_of}
-use Rattle.c_names.specs.SpelledStatements.{ops_of, more_ops_of, with_ops, cond_of, step_of, bare_of, return_of, jump_of, stmt_of, else_of, items_of, item_of}
+use Rattle.c_names.specs.SpelledStatements.{ops_of, more_ops_of, with_ops, cond_of, step_of, bare_of, return_of, jump_of, else_of, items_of, item_of}
 use Rattle.print_law.proofs.Plain.{Stmt, Simple, Jumps, If, Loop, Block, Stmts, NoStmts, And, up_stmt, up_stmts}
 use Rattle.print_law.proofs.Items.{Item, Gap, Is, here, later}
 use Rattle.print_law.proofs.Items as items
-use Rattle.print_law.proofs.Apart.{both}
 use Rattle.print_law.proofs.Calls.{value_items, value_tree}
 use Rattle.print_law.proofs.Operations.{op_items, op_tree, ops_items, ops_tree, cond_items, cond_tree}
 use Rattle.print_law.proofs.Acts.{plain_items, plain_tree}
 use Rattle.print_law.proofs.Simples.{Made, Declared, Simply, made_item, act_items, act_made}
-use Rattle.print_law.proofs.Statements.{bare_items, bare_tree, alone_items, alone_tree, bare_end, value_end, block_items, block_tree, bare_block, jump_items, jump_tree, more_ops_items, more_ops_tree, step_items, step_tree, loop_items, is_lone, in_braces, else_by, stmt_items, stmts_items, else_items, block_with, behind_cond, else_tree_by, loop_tree, stmt_tree, stmts_tree, else_tree}
+use Rattle.print_law.proofs.Statements.{bare_items, bare_tree, alone_items, alone_tree, bare_end, value_end, block_items, block_tree, bare_block, jump_items, jump_tree, more_ops_items, more_ops_tree, step_items, step_tree, is_lone, in_braces, else_by, stmt_items, stmts_items, else_items, behind_cond, else_tree_by, stmt_tree, stmts_tree, else_tree}
 use Rattle.print_law.proofs.Lexing.{items_ok}
 use Rattle.print_law.proofs.Meanings.{FileFacts, AllKnown, limits, limits-append, no-fault}
-use Rattle.print_law.proofs.SpeltExpressions.{ok-append, SpeltValue, spelt-value}
-use Rattle.print_law.proofs.SpeltActs.{ops-ok, ops-again, ops-clean, more-ops-ok, more-ops-again, more-ops-clean, made_acts, made_faults, SpeltCond, spelt-cond, SpeltPlain, spelt-step, spelt-act, Next}
+use Rattle.print_law.proofs.SpeltExpressions.{ok-append, spelt-value}
+use Rattle.print_law.proofs.SpeltActs.{ops-ok, ops-again, ops-clean, more-ops-ok, more-ops-again, more-ops-clean, made_acts, made_faults, spelt-cond, spelt-step, spelt-act, Next}
 use Rattle.print_law.proofs.Places.{own_names, all_names, items-count, parts-count, item-after, after-count, Place, place-left, place-right, place-first, valid-simple, valid-jump, valid-if, valid-loop, valid-block, known-after}
 
 -- a simple statement with its end and its operations

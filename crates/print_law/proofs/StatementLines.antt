@@ -13,25 +13,25 @@ use Rattle.c_prog.specs.Order.{joined}
 use Rattle.c_prog.specs.Valid.Acts.{is_step}
 use Rattle.c_grammar.specs.declared.sign.Sign.TheVariants as s
 use Rattle.c_grammar.specs.declared.word.Word.TheVariants as w
-use Rattle.c_grammar.specs.Token.{IsWord, IsSign, Kind}
+use Rattle.c_grammar.specs.Token.{IsWord, IsSign}
 use Rattle.c_grammar.specs.Reader.{first}
 use Rattle.c_print.specs.Text.Names.{Names}
 use Rattle.c_print.specs.Text.Pieces as pieces
-use Rattle.c_print.specs.Text.Acts.{act_text, value_text}
+use Rattle.c_print.specs.Text.Acts.{act_text}
 use Rattle.c_print.specs.Text.Operations.{op_text, op_lines, cond_text}
 use Rattle.c_print.specs.Text.Statements as print
 use Rattle.c_print.proofs.Betweens.{between-texts}
 use Rattle.c_print.proofs.TextEquations.{part-Simple, part-Jump, part-If, part-Loop, part-Block}
 use Rattle.print_law.proofs.Plain.{Stmt, Simple, Jumps, If, Loop, Block, Stmts, NoStmts, And, up_stmt, up_stmts}
-use Rattle.print_law.proofs.Items.{Item, Gap, Is, kinds, kinds-append}
+use Rattle.print_law.proofs.Items.{Item, Gap, Is, kinds}
 use Rattle.print_law.proofs.Texts.{spelled, spelled-append, spelled-closed}
-use Rattle.print_law.proofs.Apart.{fits, ends, Fits, both, fits-then, fits-append, open-fits, begins-append, closed-paren, closed-apart, Phrase}
+use Rattle.print_law.proofs.Apart.{fits, ends, Fits, both, fits-then, open-fits, begins-append, closed-paren, closed-apart}
 use Rattle.print_law.proofs.Calls.{value_items, value-text, value-fits}
 use Rattle.print_law.proofs.Operations.{op_items, op-text, ops_items, ops_lines, ops-text, cond_items, cond-text, cond-phrase}
-use Rattle.print_law.proofs.Acts.{plain_items, plain-fits, word-fits}
+use Rattle.print_law.proofs.Acts.{plain_items, plain-fits}
 use Rattle.print_law.proofs.Simples.{act_items, act_form, act-text, act-fits}
-use Rattle.print_law.proofs.Lines.{Line, line_kinds, deeper, braced, led, Hold, hold-append, hold-line, hold-deeper, hold-braced, texts, texts-append, texts-deeper, texts-braced, texts-led, all_fit, all_fit-append, all_fit-deeper, all_fit-braced}
-use Rattle.print_law.proofs.Statements.{bare_items, alone_items, block_items, bare_end, value_end, jump_items, more_ops_items, step_items, loop_items, is_if, is_lone, in_braces, else_by, if_items, stmt_items, stmts_items, else_items}
+use Rattle.print_law.proofs.Lines.{Line, deeper, braced, led, Hold, hold-append, hold-line, hold-deeper, hold-braced, texts, texts-append, texts-deeper, texts-braced, texts-led, all_fit, all_fit-append, all_fit-deeper, all_fit-braced}
+use Rattle.print_law.proofs.Statements.{bare_items, alone_items, bare_end, jump_items, more_ops_items, step_items, loop_items, is_if, is_lone, in_braces, else_by, if_items, stmt_items, stmts_items, else_items}
 
 -- the lines
 

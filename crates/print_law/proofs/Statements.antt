@@ -3,7 +3,6 @@ use Rattle.std.proofs.Common.{◌≡◌, ℕ, suc, Bool, true, false, not, ◌&&
 use Rattle.cfix_base.specs.declared.op.Op.{Op}
 use Rattle.cfix_base.specs.declared.spot.Spot.{Spot}
 use Rattle.c_prog.specs.declared.act.Act.{Act}
-use Rattle.c_prog.specs.declared.act.Value.{Value}
 use Rattle.c_prog.specs.declared.stmt.Cond.{Cond}
 use Rattle.c_prog.specs.declared.stmt.Jump.{Jump}
 use Rattle.c_prog.specs.declared.stmt.Jump.TheVariants.{Break, Continue, Return, ReturnNull, ReturnValue}
@@ -18,13 +17,12 @@ use Rattle.c_grammar.specs.Stmt as t
 use Rattle.c_grammar.specs.Reader.{tokens}
 use Rattle.c_print.specs.Text.Names.{Names}
 use Rattle.print_law.proofs.Plain.{Stmt, Simple, Jumps, If, Loop, Block, Stmts, NoStmts, And}
-use Rattle.print_law.proofs.Items.{Item, Gap, Is, kinds, here, later, spotted, after, joint, tokens-append, spotted-append}
+use Rattle.print_law.proofs.Items.{Item, Gap, Is, here, later, spotted, after, joint, tokens-append, spotted-append}
 use Rattle.print_law.proofs.Apart.{both}
 use Rattle.print_law.proofs.Calls.{value_items, value_tree, value-told, value-derived}
 use Rattle.print_law.proofs.Operations.{op_items, op_tree, ops_items, ops_tree, ops-told, cond_items, cond_tree, cond-told, cond-derived}
 use Rattle.print_law.proofs.Acts.{plain_items, plain_tree, plain-told, plain-derived}
 use Rattle.print_law.proofs.Simples.{act_items, act_made, act-told, act-derived, made_item, made_marks, made-marks, made-good}
-use Rattle.print_law.proofs.Lines.{Line}
 
 -- jumps
 

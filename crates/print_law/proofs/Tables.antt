@@ -1,30 +1,27 @@
 -- The names of a program as its file declares them.
-use Rattle.std.proofs.Common.{◌≡◌, ℕ, zero, suc, pos, ◌+◌, ◌^◌, ◌<◌, ◌≤◌, ◌==◌, Bool, true, false, not, ◌&&◌, ◌||◌, List, [], ◌∷◌, ◌++◌, map, length, Option, Some, None, slice_get, append-nil, refl, ap, sym, ◌∙◌, subst, codes, arith, true≢false, if◌then◌else◌}
-use Rattle.std.proofs.lemmas.Bool.{and_parts, or_parts, not-true, eqb-true}
-use Rattle.std.specs.Fmt as fmt
+use Rattle.std.proofs.Common.{◌≡◌, ℕ, zero, suc, pos, ◌+◌, Bool, true, false, not, ◌||◌, List, [], ◌∷◌, ◌++◌, map, length, Option, Some, None, slice_get, append-nil, refl, ap, sym, ◌∙◌, subst, arith, true≢false, if◌then◌else◌}
+use Rattle.std.proofs.lemmas.Bool.{and_parts, or_parts, not-true}
 use Rattle.std.specs.List.{list_all, list_any}
 use Rattle.std.specs.Str.{bytes_eq}
 use Rattle.cfix_base.specs.Words.{is_name_text, is_reserved_text}
 use Rattle.cfix_base.specs.declared.number.OrderId.{OrderId}
 use Rattle.c_prog.specs.declared.function.FnKind.{FnKind}
-use Rattle.c_prog.specs.declared.function.FnKind.TheVariants as gives
 use Rattle.c_prog.specs.declared.function.Function.{Function}
 use Rattle.c_prog.specs.declared.global.Global.{Global}
 use Rattle.c_prog.specs.declared.tree.Tree.{Tree}
 use Rattle.c_prog.specs.Order.{joined}
 use Rattle.c_prog.specs.Patched.{tree_patched}
-use Rattle.c_prog.specs.Valid.Scope.{VarKind, Local, Scope, visible, declared, nothing_declared}
-use Rattle.c_prog.specs.Valid.Kinds.{Signature, File, signature_of, file_of, global_var_kind}
+use Rattle.c_prog.specs.Valid.Scope.{VarKind, Scope, visible, declared}
+use Rattle.c_prog.specs.Valid.Kinds.{signature_of, file_of, global_var_kind}
 use Rattle.c_prog.specs.Valid.Acts.{is_declared_name}
-use Rattle.c_prog.specs.Valid.Functions.{are_distinct, are_declared_names, file_names, param_kind, with_params}
-use Rattle.c_print.specs.Text.Names.{Names, or_nothing, name_at, names_in, declared_names, local_names}
+use Rattle.c_prog.specs.Valid.Functions.{are_distinct, are_declared_names, file_names, with_params}
+use Rattle.c_print.specs.Text.Names.{Names, or_nothing, names_in, declared_names}
 use Rattle.c_names.specs.Uses as n
-use Rattle.c_names.specs.Declarations.{Declaration, first_meaning, first_form, form_or, is_number, is_defined_in}
-use Rattle.print_law.proofs.Plain.{plain_body, plain_body-up, up_stmts}
-use Rattle.print_law.proofs.Apart.{both}
+use Rattle.c_names.specs.Declarations.{form_or, is_number}
+use Rattle.print_law.proofs.Plain.{plain_body, plain_body-up}
 use Rattle.print_law.proofs.Files.{start_name}
 use Rattle.print_law.proofs.StatementLines.{all_formed}
-use Rattle.print_law.proofs.Meanings.{GlobalFact, FunctionFact, FileFacts, LocalFact, AllKnown, bytes-same, bytes-refl}
+use Rattle.print_law.proofs.Meanings.{FunctionFact, FileFacts, LocalFact, AllKnown, bytes-same, bytes-refl}
 use Rattle.print_law.proofs.Places.{all_names, all-names-are, Place, place-first, place-left, place-right}
 
 -- a declared name and what it declares

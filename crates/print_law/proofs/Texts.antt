@@ -1,10 +1,8 @@
 -- The text of items.
-use Rattle.std.proofs.Common.{◌≡◌, ℕ, ℤ, pos, nat_lt, ◌+◌, Bool, true, false, List, [], ◌∷◌, ◌++◌, Option, Some, None, append_assoc, append-nil, refl, ap, sym, ◌∙◌, codes, if◌then◌else◌}
+use Rattle.std.proofs.Common.{◌≡◌, ℕ, nat_lt, ◌+◌, Bool, true, false, List, [], ◌∷◌, ◌++◌, append_assoc, append-nil, refl, ap, sym, ◌∙◌, codes, if◌then◌else◌}
 use Rattle.std.specs.Fmt.{signed_decimal}
 use Rattle.c_prog.specs.declared.expr.BinOp.{BinOp}
 use Rattle.c_prog.specs.declared.expr.BinOp.TheVariants as op
-use Rattle.c_prog.specs.declared.expr.Expr.TheVariants as expr
-use Rattle.c_grammar.specs.declared.word.Word.TheVariants as w
 use Rattle.c_grammar.specs.declared.sign.Sign.TheVariants as s
 use Rattle.c_grammar.specs.Expr.{binary_sign}
 use Rattle.c_grammar.specs.Spelling.{word_text, sign_text}
