@@ -3,5 +3,4 @@
 
 mod laws;
 
-pub use laws::the_canonical_text_is_a_file;
-pub use laws::the_canonical_text_spells_its_program;
+pub use laws::{the_canonical_text_is_a_file, the_canonical_text_spells_its_program};
