@@ -19,4 +19,5 @@ mod token;
 
 pub use fault::LexFault;
 pub use lexing::lex;
+pub use number::number_value;
 pub use token::{Kind, Token, Tokens};

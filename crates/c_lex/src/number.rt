@@ -41,7 +41,8 @@ fn digits_value(text: &[u8]) -> Option<i32>
     Some(value as i32)
 }
 
-fn number(text: &[u8]) -> Option<i32>
+/// The number that is written, if no 0 leads other digits and it is at most 2147483647.
+pub fn number_value(text: &[u8]) -> Option<i32>
     ensures { MatchOption result (is_number text.now ≡ false) (λ value. (is_number text.now ≡ true) × (value ≡ pos (decimal text.now))) }
 {
     if has_leading_zero(text) {
@@ -56,7 +57,7 @@ pub fn numeral(text: &[u8]) -> Step
     ensures { Tells result (Numeral (take (prefix_len is_name_byte text.now) text.now)) }
 {
     let len = name_len(text);
-    match number(&text[..len]) {
+    match number_value(&text[..len]) {
         Some(value) => Step::Take(Kind::Number(value), len),
         None => Step::Refuse(Refusal::BadNumber),
     }

@@ -16,3 +16,4 @@ pub mod StraightEquations
 pub mod StraightBody
 pub mod ValidStraight
 pub mod SampleValid
+pub mod Numberings

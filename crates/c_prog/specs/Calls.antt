@@ -1,5 +1,5 @@
 -- The function that a node calls, and the function whose thread a node creates.
-use Rattle.std.specs.Prelude.{Option, Some, None}
+use Rattle.std.specs.Prelude.{Bool, true, false, Option, Some, None}
 use Rattle.cfix_base.specs.declared.number.FnId.{FnId}
 use Rattle.c_prog.specs.declared.act.Act.{Act}
 use Rattle.c_prog.specs.declared.act.Act.TheVariants as form
@@ -45,3 +45,8 @@ created (act a after) = act_created a
 created (cond c) = None
 created (step s) = act_created s.act
 created (jump j after) = None
+
+-- there is such a function
+abbrev pub has_callee : Option FnId → Bool
+has_callee None = false
+has_callee (Some function) = true
