@@ -1,0 +1,2 @@
+//! What a file without faults spells is a valid program.
+#![tactic(auto)]
