@@ -1,2 +1,3 @@
 pub mod Faultless
 pub mod FaultlessParts
+pub mod Operations
