@@ -1,3 +1,4 @@
 pub mod Faultless
 pub mod FaultlessParts
 pub mod Operations
+pub mod Nodes
