@@ -2,3 +2,5 @@ pub mod Faultless
 pub mod FaultlessParts
 pub mod Operations
 pub mod Nodes
+pub mod Cells
+pub mod Locals
