@@ -4,3 +4,5 @@ pub mod Operations
 pub mod Nodes
 pub mod Cells
 pub mod Locals
+pub mod Tokens
+pub mod Touches
