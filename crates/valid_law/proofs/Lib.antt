@@ -6,3 +6,4 @@ pub mod Cells
 pub mod Locals
 pub mod Tokens
 pub mod Touches
+pub mod Counts
