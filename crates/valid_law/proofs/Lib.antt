@@ -7,3 +7,4 @@ pub mod Locals
 pub mod Tokens
 pub mod Touches
 pub mod Counts
+pub mod Lexical

@@ -18,5 +18,5 @@ pub record GlobalOf (file : File) (text : List ℕ) (n : ℕ) (kind : VarKind) :
 pub record Agrees (names : Names) (file : File) : Type 0 where
   pub global : (text : List ℕ) → (n : ℕ) → (kind : VarKind) → (names text).first ≡ Some (OfVariable n kind) → GlobalOf file text n kind
   pub function : (text : List ℕ) → (n : ℕ) → (kind : FnKind) → (params : ℕ) → (names text).first ≡ Some (OfFunction n kind params)
-    → slice_get file.functions n ≡ Some (record { name = text; kind = kind; params = params })
+      → slice_get file.functions n ≡ Some (record { name = text; kind = kind; params = params })
   pub number : (text : List ℕ) → (value : ℤ) → (names text).first ≡ Some (OfNumber value) → IsTrue (is_number value)
