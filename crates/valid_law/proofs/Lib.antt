@@ -8,3 +8,5 @@ pub mod Tokens
 pub mod Touches
 pub mod Counts
 pub mod Lexical
+pub mod Lookups
+pub mod Agreement
