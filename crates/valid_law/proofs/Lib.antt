@@ -10,3 +10,4 @@ pub mod Counts
 pub mod Lexical
 pub mod Lookups
 pub mod Agreement
+pub mod FileNames
