@@ -11,3 +11,4 @@ pub mod Lexical
 pub mod Lookups
 pub mod Agreement
 pub mod FileNames
+pub mod Decimals
