@@ -38,14 +38,14 @@ texts list = map (λ d. d.0.text) list
 abbrev pub stands_in : List ℕ → List (List ℕ) → Bool
 stands_in text names = list_any (bytes_eq text) names
 
-declared-texts : (text : List ℕ) (list : List Declaration) → is_declared list text ≡ stands_in text (texts list)
+pub declared-texts : (text : List ℕ) (list : List Declaration) → is_declared list text ≡ stands_in text (texts list)
 declared-texts text [] = refl
 declared-texts text (d ∷ more) = ap (λ z. bytes_eq text d.0.text || z) (declared-texts text more)
 
 declared-front : (xs ys : List Declaration) (text : List ℕ) → is_declared xs text ≡ true → is_declared (xs ++ ys) text ≡ true
 declared-front xs ys text h = list_any-append (is_of text) xs ys ∙ ap (λ z. z || is_declared ys text) h
 
-declared-last : (xs : List Declaration) (d : Declaration) → is_declared (xs ++ d ∷ []) d.0.text ≡ true
+pub declared-last : (xs : List Declaration) (d : Declaration) → is_declared (xs ++ d ∷ []) d.0.text ≡ true
 declared-last xs d =
     list_any-append (is_of d.0.text) xs (d ∷ []) ∙ or_right (is_declared xs d.0.text) (is_declared (d ∷ []) d.0.text) (ap (λ z. z || false) (bytes-refl d.0.text))
 
@@ -54,7 +54,7 @@ apart-by before text d true e h n = absurd (true≢false (sym h ∙ ap (is_decla
 apart-by before text d false e h n = refl
 
 -- a name that is declared before does not stand behind
-apart : (before list : List Declaration) (text : List ℕ) → all_twice_faults before list ≡ [] → is_declared before text ≡ true → stands_in text (texts list) ≡ false
+pub apart : (before list : List Declaration) (text : List ℕ) → all_twice_faults before list ≡ [] → is_declared before text ≡ true → stands_in text (texts list) ≡ false
 apart before [] text e h = refl
 apart before (d ∷ more) text e h =
     let first = no_fault (is_declared before d.0.text) d.0.spot _ (none-left (twice_faults before d.0) (all_twice_faults (before ++ d ∷ []) more) e) in

@@ -12,3 +12,4 @@ pub mod Lookups
 pub mod Agreement
 pub mod FileNames
 pub mod Decimals
+pub mod Starts
