@@ -13,3 +13,4 @@ pub mod Agreement
 pub mod FileNames
 pub mod Decimals
 pub mod Starts
+pub mod Globals
