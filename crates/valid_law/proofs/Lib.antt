@@ -14,3 +14,4 @@ pub mod FileNames
 pub mod Decimals
 pub mod Starts
 pub mod Globals
+pub mod Main
