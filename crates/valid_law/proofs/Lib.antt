@@ -15,3 +15,4 @@ pub mod Decimals
 pub mod Starts
 pub mod Globals
 pub mod Main
+pub mod Pieces
