@@ -16,3 +16,4 @@ pub mod Starts
 pub mod Globals
 pub mod Main
 pub mod Pieces
+pub mod Uses
