@@ -17,3 +17,4 @@ pub mod Globals
 pub mod Main
 pub mod Pieces
 pub mod Uses
+pub mod Expressions
