@@ -18,3 +18,4 @@ pub mod Main
 pub mod Pieces
 pub mod Uses
 pub mod Expressions
+pub mod Simples
