@@ -19,3 +19,4 @@ pub mod Pieces
 pub mod Uses
 pub mod Expressions
 pub mod Simples
+pub mod Scopes
