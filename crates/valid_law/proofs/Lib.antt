@@ -20,3 +20,4 @@ pub mod Uses
 pub mod Expressions
 pub mod Simples
 pub mod Scopes
+pub mod Runs
