@@ -21,3 +21,4 @@ pub mod Expressions
 pub mod Simples
 pub mod Scopes
 pub mod Runs
+pub mod Declarations
