@@ -22,3 +22,4 @@ pub mod Simples
 pub mod Scopes
 pub mod Runs
 pub mod Declarations
+pub mod Statements
