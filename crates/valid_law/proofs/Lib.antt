@@ -23,3 +23,4 @@ pub mod Scopes
 pub mod Runs
 pub mod Declarations
 pub mod Statements
+pub mod Bodies
