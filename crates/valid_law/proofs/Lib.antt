@@ -24,3 +24,4 @@ pub mod Runs
 pub mod Declarations
 pub mod Statements
 pub mod Bodies
+pub mod ValidSpelled
