@@ -2,7 +2,7 @@
 use Rattle.std.proofs.Common.{◌≡◌, ℕ, suc, ◌+◌, ◌-◌, ◌≤◌, nat_lt, nat_le, Bool, true, false, List, [], ◌∷◌, ◌++◌, map, length, Option, Some, None, refl, ap, ◌∙◌, arith}
 use Rattle.std.specs.List.{list_all}
 use Rattle.std.proofs.lemmas.List.{length-append, length-map}
-use Rattle.std.proofs.lemmas.Bool.Decides.{nat_tests}
+use Rattle.std.proofs.lemmas.Bool.{and_from, ltb-false, le-leb}
 use Rattle.cfix_base.specs.declared.Spot.{Spot}
 use Rattle.cfix_base.specs.declared.op.Op.{Op}
 use Rattle.c_grammar.specs.Reader.{each}
@@ -36,7 +36,7 @@ use Rattle.c_names.specs.Sources.{global_int_of, global_hold_of, global_mutex_of
 use Rattle.c_names.specs.SpelledExpressions.{target_of, stepped, plain_of, library_of, simple_of}
 use Rattle.c_names.specs.SpelledStatements.{op_of, ops_of, local_int_of, local_ints_of, hold_of, decl_of, loop_ints_of, with_ops, cond_of, test_of, step_of, bare_of, return_of, jump_of, first_of, for_of, as_item, stmt_of, else_of, items_of, item_of}
 use Rattle.c_names.specs.Uses.{Names}
-use Rattle.valid_law.proofs.Faultless.{none-left, none-right, no_fault, both, all-each}
+use Rattle.valid_law.proofs.Faultless.{none-left, none-right, no_fault, all-each}
 use Rattle.valid_law.proofs.FaultlessParts.{function_parts}
 
 -- ---- cells that are counted
@@ -49,9 +49,6 @@ cells-append : (xs ys : List Cells) → in_cells (xs ++ ys) ≡ in_cells xs + in
 cells-append [] ys = omega (arith)
 cells-append (x ∷ xs) ys = omega (arith, cells-append xs ys)
 
-fits : (left n : ℕ) → nat_lt left n ≡ false → n ≤ left
-fits left n is = grind (arith, nat_tests)
-
 -- no more than are left, where none is too large
 pub cells-within : (left : ℕ) (list : List Cells) → cells_faults left list ≡ [] → in_cells list ≤ left
 cells-within left [] none = omega (arith)
@@ -60,7 +57,7 @@ cells-within left (x ∷ more) none =
     no_fault (nat_lt left x.1) x.0 Limit (none-left (fault_if (nat_lt left x.1) x.0 Limit) (cells_faults (left - x.1) more) none) in
     let later : in_cells more ≤ left - x.1 =
     cells-within (left - x.1) more (none-right (fault_if (nat_lt left x.1) x.0 Limit) (cells_faults (left - x.1) more) none) in
-    omega (arith, fits left x.1 here, later)
+    omega (arith, ltb-false left x.1 here, later)
 
 -- ---- global variables
 
@@ -370,9 +367,6 @@ function-cells names head ops items =
 abbrev pub has_few_cells : Function → Bool
 has_few_cells function = nat_le (function_cells (Some function)) 1024
 
-few : (n : ℕ) → n ≤ 1024 → nat_le n 1024 ≡ true
-few n is = grind (arith, nat_tests)
-
 top-few : (names : Names) (x : f.Top) → top_faults names x ≡ [] → list_all has_few_cells (top_functions_of names x) ≡ true
 top-few names (f.Include at name header) none = refl
 top-few names (f.Define at name x value) none = refl
@@ -382,7 +376,7 @@ top-few names (f.Function head before ops items after) none =
     let cells : List Cells = file.function_cells names head items in
     let bound : in_cells cells ≤ 1024 = cells-within 1024 cells (function_parts names head ops items none).cells in
     let own : function_cells (Some (function_of names head ops items)) ≤ 1024 = omega (arith, bound, function-cells names head ops items) in
-    both (has_few_cells (function_of names head ops items)) true (few (function_cells (Some (function_of names head ops items))) own) refl
+    and_from (has_few_cells (function_of names head ops items)) true (le-leb (function_cells (Some (function_of names head ops items))) 1024 own) refl
 
 -- each function that a file without faults spells has few cells
 pub cells-few : (names : Names) (tops : f.File) → each (top_faults names) tops ≡ [] → list_all has_few_cells (each (top_functions_of names) tops) ≡ true

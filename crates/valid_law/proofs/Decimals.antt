@@ -1,11 +1,10 @@
 -- A number that no 0 leads is spelled in one way only.
-use Rattle.std.proofs.Common.{◌≡◌, ℕ, zero, suc, ◌+◌, ◌-◌, ◌*◌, ◌<◌, ◌≤◌, eqb, leb, Bool, true, false, not, ◌&&◌, ◌⊎◌, List, [], ◌∷◌, length, refl, ap, ap₂, sym, ◌∙◌, ⊎_elim, true≢false, arith}
+use Rattle.std.proofs.Common.{◌≡◌, ℕ, zero, suc, ◌+◌, ◌-◌, ◌*◌, ◌<◌, ◌≤◌, leb, Bool, true, false, not, ◌&&◌, List, [], ◌∷◌, length, refl, ap, ap₂, sym, ◌∙◌, ⊎_elim, true≢false, arith}
 use Rattle.std.specs.List.{list_all}
 use Rattle.std.specs.Char.{is_ascii_digit}
-use Rattle.std.proofs.lemmas.Bool.{cases_lt}
+use Rattle.std.proofs.lemmas.Bool.{and_parts, not-true, cases_lt}
 use Rattle.std.proofs.lemmas.Bool.Decides.{nat_tests}
 use Rattle.c_lex.specs.Meaning.{decimal_after, decimal, has_leading_zero, is_number}
-use Rattle.valid_law.proofs.Faultless.{both, and-left, and-right}
 
 abbrev are_digits : List ℕ → Bool
 are_digits text = list_all is_ascii_digit text
@@ -29,11 +28,11 @@ same-digits [] [] f g on_xs on_ys long is = (is, refl)
 same-digits [] (y ∷ ys) f g on_xs on_ys long is = absurd (omega (arith, long))
 same-digits (x ∷ xs) [] f g on_xs on_ys long is = absurd (omega (arith, long))
 same-digits (x ∷ xs) (y ∷ ys) f g on_xs on_ys long is =
-    let dx : is_ascii_digit x ≡ true = and-left (is_ascii_digit x) (are_digits xs) on_xs in
-    let dy : is_ascii_digit y ≡ true = and-left (is_ascii_digit y) (are_digits ys) on_ys in
+    let dx : is_ascii_digit x ≡ true = (and_parts (is_ascii_digit x) (are_digits xs) on_xs).0 in
+    let dy : is_ascii_digit y ≡ true = (and_parts (is_ascii_digit y) (are_digits ys) on_ys).0 in
     let rest : (10 * f + (x - 48) ≡ 10 * g + (y - 48)) × (xs ≡ ys) =
-    same-digits xs ys (10 * f + (x - 48)) (10 * g + (y - 48)) (and-right (is_ascii_digit x) (are_digits xs) on_xs)
-    (and-right (is_ascii_digit y) (are_digits ys) on_ys) (omega (arith, long)) is in (
+    same-digits xs ys (10 * f + (x - 48)) (10 * g + (y - 48)) (and_parts (is_ascii_digit x) (are_digits xs) on_xs).1
+    (and_parts (is_ascii_digit y) (are_digits ys) on_ys).1 (omega (arith, long)) is in (
       same-first f g x y (digit-least x dx) (digit-most x dx) (digit-least y dy) (digit-most y dy) rest.0,
       ap₂ (λ (a : ℕ) (b : List ℕ). a ∷ b) (same-digit f g x y (digit-least x dx) (digit-most x dx) (digit-least y dy) (digit-most y dy) rest.0) rest.1,
     )
@@ -68,21 +67,15 @@ no-zeros (suc n) x xs ys free is = absurd (true≢false (sym (zeros-lead n x xs)
 -- ---- numbers
 
 no-lead : (xs : List ℕ) → is_number xs ≡ true → has_leading_zero xs ≡ false
-no-lead xs is = by (has_leading_zero xs) (and-left (not (has_leading_zero xs)) (are_digits xs && leb (decimal xs) 2147483647) is)
-  where
-    by : (b : Bool) → not b ≡ true → b ≡ false
-    by true h = absurd cc
-    by false h = refl
+no-lead xs is = not-true (has_leading_zero xs) (and_parts (not (has_leading_zero xs)) (are_digits xs && leb (decimal xs) 2147483647) is).0
 
 number-digits : (xs : List ℕ) → is_number xs ≡ true → are_digits xs ≡ true
 number-digits xs is =
-    and-left (are_digits xs) (leb (decimal xs) 2147483647)
-    (and-right (not (has_leading_zero xs)) (are_digits xs && leb (decimal xs) 2147483647) is)
+    (and_parts (are_digits xs) (leb (decimal xs) 2147483647) (and_parts (not (has_leading_zero xs)) (are_digits xs && leb (decimal xs) 2147483647) is).1).0
 
 pub number-small : (xs : List ℕ) → is_number xs ≡ true → leb (decimal xs) 2147483647 ≡ true
 number-small xs is =
-    and-right (are_digits xs) (leb (decimal xs) 2147483647)
-    (and-right (not (has_leading_zero xs)) (are_digits xs && leb (decimal xs) 2147483647) is)
+    (and_parts (are_digits xs) (leb (decimal xs) 2147483647) (and_parts (not (has_leading_zero xs)) (are_digits xs && leb (decimal xs) 2147483647) is).1).1
 
 -- of two spellings one is no longer than the other
 shorter : (x : ℕ) (xs ys : List ℕ) → is_number (x ∷ xs) ≡ true → is_number ys ≡ true → length (x ∷ xs) ≤ length ys

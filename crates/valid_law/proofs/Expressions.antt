@@ -1,6 +1,6 @@
 -- Expressions, targets and calls without faults spell valid ones.
 use Rattle.std.proofs.Common.{◌≡◌, ℕ, suc, ◌==◌, Bool, true, false, not, ◌&&◌, ◌||◌, List, [], ◌∷◌, ◌++◌, map, length, Option, Some, None, option_map, refl, ap, sym, ◌∙◌, true≢false}
-use Rattle.std.proofs.lemmas.Bool.{and_parts, and_from, not-false}
+use Rattle.std.proofs.lemmas.Bool.{and_parts, and_from, not-false, or_parts}
 use Rattle.std.proofs.lemmas.List.{length-map}
 use Rattle.std.specs.List.{list_all}
 use Rattle.cfix_base.specs.declared.Spot.{Spot}
@@ -199,11 +199,7 @@ module _ (names : Names) (file : File) (scope inner : Scope) (means : (text : Li
       → has_value (function_here file scope (record { number = function_number u })) ≡ true
   valued f (IsFunction n k p) count known e v =
       let roots = no_fault (is_root_name f k) f.spot RootCalled (none-left (fault_if (is_root_name f k) f.spot RootCalled) _ e) in
-      ap has_value known ∙ int-by k (or-right (is_main_name f.text) (is_thread_kind k) roots) v
-    where
-      or-right : (a b : Bool) → (a || b) ≡ false → b ≡ false
-      or-right true b h = absurd (true≢false h)
-      or-right false b h = h
+      ap has_value known ∙ int-by k (or_parts (is_main_name f.text) (is_thread_kind k) roots).1 v
   valued f (IsLocal n k) count known e v = absurd cc
   valued f (IsGlobal n k) count known e v = absurd cc
   valued f (IsDefined n) count known e v = absurd cc

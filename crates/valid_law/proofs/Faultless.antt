@@ -1,5 +1,7 @@
 -- What follows where a list of faults is empty.
-use Rattle.std.proofs.Common.{◌≡◌, Bool, true, false, ◌&&◌, List, [], ◌∷◌, ◌++◌, refl}
+use Rattle.std.proofs.Common.{◌≡◌, Bool, true, false, List, [], ◌∷◌, ◌++◌, refl, ◌∙◌}
+use Rattle.std.proofs.lemmas.Bool.{and_from}
+use Rattle.std.proofs.lemmas.List.Folds.{list_all-append}
 use Rattle.std.specs.List.{list_all}
 use Rattle.cfix_base.specs.declared.Spot.{Spot}
 use Rattle.c_grammar.specs.Reader.{each}
@@ -22,25 +24,9 @@ pub no_fault : (test : Bool) (spot : Spot) (kind : FaultKind) → fault_if test 
 no_fault true spot kind none = absurd cc
 no_fault false spot kind none = refl
 
--- both tests hold
-pub both : (a b : Bool) → a ≡ true → b ≡ true → (a && b) ≡ true
-both true b on_a on_b = on_b
-both false b on_a on_b = on_a
-
-pub and-left : (a b : Bool) → (a && b) ≡ true → a ≡ true
-and-left true b is = refl
-and-left false b is = is
-
-pub and-right : (a b : Bool) → (a && b) ≡ true → b ≡ true
-and-right true b is = is
-and-right false b is = absurd cc
-
--- a test of lists, one behind the other
-module _ {A : Type 0} (p : A → Bool) where
-  pub all-append : (xs ys : List A) → list_all p xs ≡ true → list_all p ys ≡ true → list_all p (xs ++ ys) ≡ true
-  all-append [] ys on_xs on_ys = on_ys
-  all-append (x ∷ xs) ys on_xs on_ys =
-      both (p x) (list_all p (xs ++ ys)) (and-left (p x) (list_all p xs) on_xs) (all-append xs ys (and-right (p x) (list_all p xs) on_xs) on_ys)
+-- what passes a test of lists, one behind the other
+pub all-append : {A : Type 0} (p : A → Bool) (xs ys : List A) → list_all p xs ≡ true → list_all p ys ≡ true → list_all p (xs ++ ys) ≡ true
+all-append p xs ys on_xs on_ys = list_all-append p xs ys ∙ and_from (list_all p xs) (list_all p ys) on_xs on_ys
 
 -- where the parts of a list without faults spell what passes a test, so does the list
 module _ {A B : Type 0} (faults : A → List Fault) (of : A → List B) (p : B → Bool) (part : (a : A) → faults a ≡ [] → list_all p (of a) ≡ true) where

@@ -24,8 +24,8 @@ use Rattle.c_names.specs.Declarations.{Variable, global_int_variable, hold_varia
 use Rattle.c_names.specs.Files.{twice_faults, all_twice_faults, no_main_faults, variable_faults, global_int_faults, global_hold_faults, global_mutex_faults, globals_faults, top_faults}
 use Rattle.c_names.specs.Sources.{globals_of, top_globals, top_functions_of, source_of}
 use Rattle.valid_law.specs.Lexical.{are_lexical}
-use Rattle.valid_law.proofs.Lexical.{all-both, passes-each, lexical-left, lexical-right, lexical-tail, lexical-parts}
-use Rattle.valid_law.proofs.Faultless.{none-left, none-right, no_fault}
+use Rattle.valid_law.proofs.Lexical.{passes-each, lexical-left, lexical-right, lexical-tail, lexical-parts}
+use Rattle.valid_law.proofs.Faultless.{none-left, none-right, no_fault, all-append}
 use Rattle.valid_law.proofs.Lookups.{bytes-same, bytes-refl, Pairs, pairs}
 
 -- ---- no name is declared twice
@@ -289,7 +289,7 @@ each-declared : {B : Type 0} (names : Names) (name : B → List ℕ) (part : Top
 each-declared names name part here [] l e = refl
 each-declared names name part here (top ∷ more) l e =
     ap (list_all is_declared_name) (map-append name (part top) (each part more))
-    ∙ all-both is_declared_name (map name (part top)) (map name (each part more))
+    ∙ all-append is_declared_name (map name (part top)) (map name (each part more))
     (here top (lexical-left (top_marks top) (file_marks more) l) (none-left (top_faults names top) (each (top_faults names) more) e))
     (each-declared names name part here more (lexical-right (top_marks top) (file_marks more) l) (none-right (top_faults names top) (each (top_faults names) more) e))
 
@@ -299,7 +299,7 @@ pub names-valid : (file : File) → are_lexical (file_marks file) ≡ true → a
 names-valid file l twice tops =
     let names = names_of file in
     and_from _ _
-    (all-both is_declared_name (global_names (each (top_globals names) file)) (function_names (each (top_functions_of names) file))
+    (all-append is_declared_name (global_names (each (top_globals names) file)) (function_names (each (top_functions_of names) file))
     (each-declared names (λ global. global.name) (top_globals names) (top-globals-declared names) file l tops)
     (each-declared names (λ function. function.name) (top_functions_of names) (top-functions-declared names) file l tops))
     (distinct-names file twice)

@@ -28,7 +28,7 @@ use Rattle.c_prog.specs.Valid.Strings.{is_string_byte, is_string}
 use Rattle.c_names.specs.Texts.{kind_read, token_read, tokens_read}
 use Rattle.c_names.specs.Parsed.{IsParsed}
 use Rattle.valid_law.specs.Lexical.{are_bytes, is_lexical, all_lexical, are_lexical}
-use Rattle.valid_law.proofs.Faultless.{none-left, none-right}
+use Rattle.valid_law.proofs.Faultless.{none-left, none-right, all-append}
 
 -- ---- lists that pass a test
 
@@ -38,10 +38,6 @@ all-left p xs ys h = (and_parts (list_all p xs) (list_all p ys) (sym (list_all-a
 
 pub all-right : {X : Type 0} (p : X → Bool) (xs ys : List X) → list_all p (xs ++ ys) ≡ true → list_all p ys ≡ true
 all-right p xs ys h = (and_parts (list_all p xs) (list_all p ys) (sym (list_all-append p xs ys) ∙ h)).1
-
--- the whole passes where both parts do
-pub all-both : {X : Type 0} (p : X → Bool) (xs ys : List X) → list_all p xs ≡ true → list_all p ys ≡ true → list_all p (xs ++ ys) ≡ true
-all-both p xs ys g h = list_all-append p xs ys ∙ and_from (list_all p xs) (list_all p ys) g h
 
 pub all-head : {X : Type 0} (p : X → Bool) (x : X) (xs : List X) → list_all p (x ∷ xs) ≡ true → p x ≡ true
 all-head p x xs h = (and_parts (p x) (list_all p xs) h).0
@@ -186,7 +182,7 @@ tokens-read : (before : List ℕ) (pieces : List Piece) (text : List ℕ) → Di
 tokens-read before [] text d b = refl
 tokens-read before (piece ∷ pieces) text d b =
     let bytes : are_bytes (spelling piece ++ d.0) ≡ true = ap are_bytes (sym d.1.0.front) ∙ b in
-    all-both (λ x. is_lexical (kind_read x.kind)) (token_of (m.verdict piece) (spot_behind before)) (tokens_behind (before ++ spelling piece) pieces)
+    all-append (λ x. is_lexical (kind_read x.kind)) (token_of (m.verdict piece) (spot_behind before)) (tokens_behind (before ++ spelling piece) pieces)
     (piece-read piece (spot_behind before) d.1.0.known (all-left (λ byte. nat_le byte 255) (spelling piece) d.0 bytes))
     (tokens-read (before ++ spelling piece) pieces d.0 d.1.2 (all-right (λ byte. nat_le byte 255) (spelling piece) d.0 bytes))
 

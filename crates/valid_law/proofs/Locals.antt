@@ -1,8 +1,8 @@
 -- Statements declare at most as many locals as they have nodes.
-use Rattle.std.proofs.Common.{◌≡◌, ℕ, zero, suc, ◌+◌, ◌≤◌, true, nat_le, List, [], ◌∷◌, map, length, slice_get, Some, subst, ap, sym, arith}
+use Rattle.std.proofs.Common.{◌≡◌, ℕ, zero, suc, ◌+◌, ◌≤◌, true, List, [], ◌∷◌, map, length, slice_get, Some, subst, ap, sym, arith}
 use Rattle.std.specs.List.{list_all}
 use Rattle.std.proofs.lemmas.List.{length-append}
-use Rattle.std.proofs.lemmas.Bool.Decides.{nat_tests}
+use Rattle.std.proofs.lemmas.Bool.{and_parts, leb-true}
 use Rattle.c_prog.specs.declared.act.Act.{Act}
 use Rattle.c_prog.specs.declared.act.Act.TheVariants as act
 use Rattle.c_prog.specs.declared.function.Function.{Function}
@@ -16,7 +16,6 @@ use Rattle.c_prog.specs.Valid.Locals.{act_locals, locals, locals_of, function_lo
 use Rattle.c_prog.proofs.Equations.{nodes-Simple, nodes-If, nodes-Loop, nodes-Block}
 use Rattle.c_prog.proofs.ValidEquations.{locals-Simple, locals-Jump, locals-If, locals-Loop, locals-Block}
 use Rattle.valid_law.proofs.Cells.{has_few_cells}
-use Rattle.valid_law.proofs.Faultless.{and-left, and-right}
 
 abbrev AreFew : Stmt → Type 0
 AreFew s = length (locals s) ≤ nodes s
@@ -72,9 +71,6 @@ pub few-locals_of : (list : List Stmt) → length (locals_of list) ≤ nodes_of 
 few-locals_of [] = omega (arith)
 few-locals_of (s ∷ list) = omega (arith, length-append (locals s) (locals_of list), few-locals s, few-locals_of list)
 
-at-most : (n : ℕ) → nat_le n 1024 ≡ true → n ≤ 1024
-at-most n is = grind (arith, nat_tests)
-
 -- a function among these has few parameters and locals
 pub locals-among : (list : List Function) (n : ℕ) → list_all has_few_cells list ≡ true
     → function_locals (slice_get list n) ≤ 1024 + functions_nodes list
@@ -83,13 +79,13 @@ locals-among (x ∷ list) zero small =
     omega (
       arith,
       few-locals_of x.body,
-      at-most (function_cells (Some x)) (and-left (has_few_cells x) (list_all has_few_cells list) small),
+      leb-true (function_cells (Some x)) 1024 (and_parts (has_few_cells x) (list_all has_few_cells list) small).0,
     )
 locals-among (x ∷ list) (suc n) small =
-    omega (arith, locals-among list n (and-right (has_few_cells x) (list_all has_few_cells list) small))
+    omega (arith, locals-among list n (and_parts (has_few_cells x) (list_all has_few_cells list) small).1)
 
 -- a function among these has few cells of them
 pub cells-among : (list : List Function) (n : ℕ) → list_all has_few_cells list ≡ true → function_cells (slice_get list n) ≤ 1024
 cells-among [] n small = omega (arith)
-cells-among (x ∷ list) zero small = at-most (function_cells (Some x)) (and-left (has_few_cells x) (list_all has_few_cells list) small)
-cells-among (x ∷ list) (suc n) small = cells-among list n (and-right (has_few_cells x) (list_all has_few_cells list) small)
+cells-among (x ∷ list) zero small = leb-true (function_cells (Some x)) 1024 (and_parts (has_few_cells x) (list_all has_few_cells list) small).0
+cells-among (x ∷ list) (suc n) small = cells-among list n (and_parts (has_few_cells x) (list_all has_few_cells list) small).1

@@ -1,6 +1,6 @@
 -- Main is there: an `int` function without parameters.
 use Rattle.std.proofs.Common.{◌≡◌, ℕ, zero, suc, ◌==◌, Bool, true, false, not, ◌&&◌, ◌||◌, List, [], ◌∷◌, map, length, Option, Some, None, slice_get, refl, ap, sym, ◌∙◌, true≢false, codes}
-use Rattle.std.proofs.lemmas.Bool.{and_from, and_parts, or_left, or_right}
+use Rattle.std.proofs.lemmas.Bool.{and_from, and_parts, or_left, or_right, not-false}
 use Rattle.std.proofs.lemmas.List.{length-map}
 use Rattle.std.specs.List.{list_all, list_any}
 use Rattle.cfix_base.specs.declared.Spot.{Spot}
@@ -16,10 +16,9 @@ use Rattle.c_names.specs.Declarations.{head_name, head_kind, head_params, names_
 use Rattle.c_names.specs.Files.{param_text, is_function_use, main_faults, top_faults}
 use Rattle.c_names.specs.Sources.{top_functions_of, source_of}
 use Rattle.valid_law.specs.Agrees.{Agrees}
-use Rattle.valid_law.proofs.Faultless.{none-left, none-right, no_fault}
+use Rattle.valid_law.proofs.Faultless.{no_fault, all-each}
 use Rattle.valid_law.proofs.FaultlessParts.{function_parts}
 use Rattle.valid_law.proofs.Lookups.{none-some, same-some}
-use Rattle.valid_law.proofs.Lexical.{all-both}
 
 -- a function that is named main has main's form
 abbrev main_fits : fn.Function → Bool
@@ -43,10 +42,7 @@ top-fits names (Function head before ops items after) e =
     ∙ fits-by (is_main_name (head_name head).text) (is_int_kind (head_kind head) && length (head_params head) == 0) form) refl
 
 tops-fit : (names : Names) (file : File) → each (top_faults names) file ≡ [] → list_all main_fits (each (top_functions_of names) file) ≡ true
-tops-fit names [] e = refl
-tops-fit names (top ∷ more) e =
-    all-both main_fits (top_functions_of names top) (each (top_functions_of names) more) (top-fits names top (none-left (top_faults names top) (each (top_faults names) more) e))
-    (tops-fit names more (none-right (top_faults names top) (each (top_faults names) more) e))
+tops-fit names = all-each (top_faults names) (top_functions_of names) main_fits (top-fits names)
 
 -- the number of the function that a name stands for
 function-by : (first : Option Meaning) → is_function_use (file_use first) ≡ true → (n : ℕ) × (kind : FnKind) × (params : ℕ) × (first ≡ Some (OfFunction n kind params))
@@ -69,16 +65,12 @@ main-at (x ∷ more) zero s f e h =
     or_left (is_main x) (list_any is_main more) (main-by (is_main_name x.name) (is_int_kind x.kind) (length x.params == 0) fs.0 named)
 main-at (x ∷ more) (suc n) s f e h = or_right (is_main x) (list_any is_main more) (main-at more n s (and_parts (main_fits x) (list_all main_fits more) f).1 e h)
 
-not-false-by : (b : Bool) → not b ≡ false → b ≡ true
-not-false-by true e = refl
-not-false-by false e = absurd (true≢false e)
-
 -- main is one of the functions of a file without faults
 pub has_main-valid : (file : File) (end : Spot) → Agrees (names_of file) (file_of (source_of file).tree) → each (top_faults (names_of file)) file ≡ [] → main_faults (names_of file) end ≡ []
     → list_any is_main (source_of file).tree.functions ≡ true
 has_main-valid file end agrees tops main =
     let names = names_of file in
-    let stands = not-false-by (is_function_use (file_use (names (codes "main")).first)) (no_fault (not (is_function_use (file_use (names (codes "main")).first))) end _ main) in
+    let stands = not-false (is_function_use (file_use (names (codes "main")).first)) (no_fault (not (is_function_use (file_use (names (codes "main")).first))) end _ main) in
     let found = function-by (names (codes "main")).first stands in
     main-at (each (top_functions_of names) file) found.0 (record { name = codes "main"; kind = found.1; params = found.2 }) (tops-fit names file tops)
     (agrees.function (codes "main") found.0 found.1 found.2 found.3) refl

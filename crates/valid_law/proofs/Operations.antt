@@ -2,6 +2,7 @@
 use Rattle.std.proofs.Common.{◌≡◌, ℕ, nat_le, nat_lt, true, false, ◌&&◌, List, [], ◌∷◌, ◌++◌, Option, Some, None, unsigned_abs, refl, ap, ◌∙◌, arith}
 use Rattle.std.specs.List.{list_all}
 use Rattle.std.proofs.lemmas.Bool.Decides.{nat_tests}
+use Rattle.std.proofs.lemmas.Bool.{and_parts, and_from}
 use Rattle.cfix_base.specs.declared.Spot.{Spot}
 use Rattle.cfix_base.specs.declared.op.Op as o
 use Rattle.c_grammar.specs.Reader.{each}
@@ -29,7 +30,7 @@ use Rattle.c_names.specs.SpelledExpressions.{plain_of, simple_of}
 use Rattle.c_names.specs.SpelledStatements.{operation, op_of, ops_of, more_ops_of, decl_of, loop_ints_of, with_ops, guard_of, cond_of, test_of, step_of, bare_of, return_of, jump_of, first_of, for_of, as_item, stmt_of, else_of, items_of, item_of}
 use Rattle.c_names.specs.Statements.{decl_faults, first_faults, guard_faults, cond_faults, test_faults, step_faults, stmt_faults, else_faults, items_faults, item_faults}
 use Rattle.c_names.specs.Uses.{Names}
-use Rattle.valid_law.proofs.Faultless.{none-left, none-right, no_fault, both, and-left, and-right, all-each}
+use Rattle.valid_law.proofs.Faultless.{none-left, none-right, no_fault, all-each}
 use Rattle.valid_law.proofs.FaultlessParts.{FunctionFaultless, function_parts}
 
 -- ---- operations
@@ -53,20 +54,20 @@ op-valid (g.OpOf verb at before n after) none =
 ops-valid : (ops : g.Ops) → ops_faults ops ≡ [] → are_valid_ops (ops_of ops) ≡ true
 ops-valid [] none = refl
 ops-valid (x ∷ ops) none =
-    both (nat_le (op_number (op_of x.0)) 2147483647) (are_valid_ops (ops_of ops))
+    and_from (nat_le (op_number (op_of x.0)) 2147483647) (are_valid_ops (ops_of ops))
     (op-valid x.0 (none-left (op_faults x.0) (ops_faults ops) none))
     (ops-valid ops (none-right (op_faults x.0) (ops_faults ops) none))
 
 more_ops-valid : (ops : List (Spot × g.Op)) → more_ops_faults ops ≡ [] → are_valid_ops (more_ops_of ops) ≡ true
 more_ops-valid [] none = refl
 more_ops-valid (x ∷ ops) none =
-    both (nat_le (op_number (op_of x.1)) 2147483647) (are_valid_ops (more_ops_of ops))
+    and_from (nat_le (op_number (op_of x.1)) 2147483647) (are_valid_ops (more_ops_of ops))
     (op-valid x.1 (none-left (op_faults x.1) (more_ops_faults ops) none))
     (more_ops-valid ops (none-right (op_faults x.1) (more_ops_faults ops) none))
 
 -- an operation and others behind it
 some-valid : (op : g.Op) (ops : g.Ops) → op_faults op ≡ [] → ops_faults ops ≡ [] → are_valid_ops (op_of op ∷ ops_of ops) ≡ true
-some-valid op ops none more = both (nat_le (op_number (op_of op)) 2147483647) (are_valid_ops (ops_of ops)) (op-valid op none) (ops-valid ops more)
+some-valid op ops none more = and_from (nat_le (op_number (op_of op)) 2147483647) (are_valid_ops (ops_of ops)) (op-valid op none) (ops-valid ops more)
 
 guard-valid : (x : c.Guard) → guard_faults x ≡ [] → are_valid_ops (guard_of x) ≡ true
 guard-valid (c.GuardOf op comma more at) none =
@@ -78,13 +79,13 @@ module _ (names : Names) (scope : Scope) where
   cond-valid : (x : c.Cond) → cond_faults names scope x ≡ [] → has_valid_cond (cond_of names scope x) ≡ true
   cond-valid (c.Bare e) none = refl
   cond-valid (c.OnTrue (c.TrueGuardOf before e after also before2 guard after2)) none =
-      both (are_valid_ops (guard_of guard)) true (guard-valid guard (none-right (expr_faults names scope e) (guard_faults guard) none)) refl
+      and_from (are_valid_ops (guard_of guard)) true (guard-valid guard (none-right (expr_faults names scope e) (guard_faults guard) none)) refl
   cond-valid (c.OnFalse before e after or before2 guard after2) none =
       guard-valid guard (none-right (expr_faults names scope e) (guard_faults guard) none)
   cond-valid (c.OnBoth before (c.TrueGuardOf before1 e after1 also before2 guard1 after2) after or before3 guard after3) none =
       let first : expr_faults names scope e ++ guard_faults guard1 ≡ [] =
       none-left (expr_faults names scope e ++ guard_faults guard1) (guard_faults guard) none in
-      both (are_valid_ops (guard_of guard1)) (are_valid_ops (guard_of guard))
+      and_from (are_valid_ops (guard_of guard1)) (are_valid_ops (guard_of guard))
       (guard-valid guard1 (none-right (expr_faults names scope e) (guard_faults guard1) first))
       (guard-valid guard (none-right (expr_faults names scope e ++ guard_faults guard1) (guard_faults guard) none))
 
@@ -99,18 +100,18 @@ module _ (names : Names) (scope : Scope) where
 -- simple statements with the operations behind the last
 with_ops-valid : (acts : List Act) (ops : List o.Op) → are_valid_ops ops ≡ true → have_valid_ops (with_ops acts ops) ≡ true
 with_ops-valid [] ops valid = refl
-with_ops-valid (a ∷ []) ops valid = both (has_valid_ops (stmt.Simple a ops)) true (ops-Simple a ops ∙ valid) refl
+with_ops-valid (a ∷ []) ops valid = and_from (has_valid_ops (stmt.Simple a ops)) true (ops-Simple a ops ∙ valid) refl
 with_ops-valid (a ∷ b ∷ more) ops valid =
-    both (has_valid_ops (stmt.Simple a [])) (have_valid_ops (with_ops (b ∷ more) ops)) (ops-Simple a []) (with_ops-valid (b ∷ more) ops valid)
+    and_from (has_valid_ops (stmt.Simple a [])) (have_valid_ops (with_ops (b ∷ more) ops)) (ops-Simple a []) (with_ops-valid (b ∷ more) ops valid)
 
 have-append : (xs ys : List Stmt) → have_valid_ops xs ≡ true → have_valid_ops ys ≡ true → have_valid_ops (xs ++ ys) ≡ true
 have-append [] ys on_xs on_ys = on_ys
 have-append (x ∷ xs) ys on_xs on_ys =
-    both (has_valid_ops x) (have_valid_ops (xs ++ ys)) (and-left (has_valid_ops x) (have_valid_ops xs) on_xs)
-    (have-append xs ys (and-right (has_valid_ops x) (have_valid_ops xs) on_xs) on_ys)
+    and_from (has_valid_ops x) (have_valid_ops (xs ++ ys)) (and_parts (has_valid_ops x) (have_valid_ops xs) on_xs).0
+    (have-append xs ys (and_parts (has_valid_ops x) (have_valid_ops xs) on_xs).1 on_ys)
 
 one-valid : (x : Stmt) → has_valid_ops x ≡ true → have_valid_ops (x ∷ []) ≡ true
-one-valid x valid = both (has_valid_ops x) true valid refl
+one-valid x valid = and_from (has_valid_ops x) true valid refl
 
 -- the first part of a `for` has no operations
 first-valid : (names : Names) (scope : Scope) (x : t.First) → have_valid_ops (first_of names scope x) ≡ true
@@ -168,8 +169,8 @@ mutual
       let later : first ++ second ≡ [] = none-right (cond_faults names scope x) (first ++ second) none in
       one-valid (stmt.If (cond_of names scope x) on_true on_false)
       (ops-If (cond_of names scope x) on_true on_false
-      ∙ both (has_valid_cond (cond_of names scope x) && have_valid_ops on_true) (have_valid_ops on_false)
-      (both (has_valid_cond (cond_of names scope x)) (have_valid_ops on_true)
+      ∙ and_from (has_valid_cond (cond_of names scope x) && have_valid_ops on_true) (have_valid_ops on_false)
+      (and_from (has_valid_cond (cond_of names scope x)) (have_valid_ops on_true)
       (cond-valid names scope x (none-left (cond_faults names scope x) (first ++ second) none))
       (stmt-valid names around (entered scope) st (none-left first second later)))
       (else-valid names around (passed (stmt_locals st) scope) e (none-right first second later)))
@@ -178,8 +179,8 @@ mutual
       let inside : List Fault = stmt_faults names (looped around) (entered scope) st in
       one-valid (stmt.Loop (cond_of names scope x) None body)
       (ops-Loop (cond_of names scope x) None body
-      ∙ both (has_valid_cond (cond_of names scope x) && true) (have_valid_ops body)
-      (both (has_valid_cond (cond_of names scope x)) true (cond-valid names scope x (none-left (cond_faults names scope x) inside none)) refl)
+      ∙ and_from (has_valid_cond (cond_of names scope x) && true) (have_valid_ops body)
+      (and_from (has_valid_cond (cond_of names scope x)) true (cond-valid names scope x (none-left (cond_faults names scope x) inside none)) refl)
       (stmt-valid names (looped around) (entered scope) st (none-right (cond_faults names scope x) inside none)))
   stmt-valid names around scope (t.For at before first end x end2 step after st) none =
       let here : Scope = in_for first scope in
@@ -193,8 +194,8 @@ mutual
       one-valid (for_of names (entered scope) first loop)
       (for-valid names (entered scope) first loop
       (ops-Loop (test_of names here x) (step_of names here step) body
-      ∙ both (has_valid_cond (test_of names here x) && has_valid_step (step_of names here step)) (have_valid_ops body)
-      (both (has_valid_cond (test_of names here x)) (has_valid_step (step_of names here step))
+      ∙ and_from (has_valid_cond (test_of names here x) && has_valid_step (step_of names here step)) (have_valid_ops body)
+      (and_from (has_valid_cond (test_of names here x)) (has_valid_step (step_of names here step))
       (test-valid names here x (none-left (test_faults names here x) stepping later))
       (step-valid names here step (none-left (step_faults names here step) inside last)))
       (stmt-valid names (looped around) (entered here) st (none-right (step_faults names here step) inside last))))
@@ -230,8 +231,8 @@ top-valid names (f.Variables qualifiers globals end) none = refl
 top-valid names (f.Prototype head end) none = refl
 top-valid names (f.Function head before ops items after) none =
     let parts : FunctionFaultless names head ops items = function_parts names head ops items none in
-    both (are_valid_ops (ops_of ops) && have_valid_ops (body_of names head items)) true
-    (both (are_valid_ops (ops_of ops)) (have_valid_ops (body_of names head items)) (ops-valid ops parts.ops)
+    and_from (are_valid_ops (ops_of ops) && have_valid_ops (body_of names head items)) true
+    (and_from (are_valid_ops (ops_of ops)) (have_valid_ops (body_of names head items)) (ops-valid ops parts.ops)
     (items-valid names (body_around head) (body_scope head) items parts.items))
     refl
 

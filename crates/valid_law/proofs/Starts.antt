@@ -1,24 +1,22 @@
 -- The orders that a file without faults begins with a token rise, and are small.
-use Rattle.std.proofs.Common.{◌≡◌, ℕ, ◌+◌, ◌==◌, nat_le, nat_lt, eqb, suc, Bool, true, false, ◌&&◌, ◌||◌, List, [], ◌∷◌, ◌++◌, length, take, drop, Option, Some, None, codes, if◌then◌else◌, refl, ap, sym, ◌∙◌, subst, append_assoc, append-nil, true≢false, arith}
+use Rattle.std.proofs.Common.{◌≡◌, ℕ, ◌+◌, ◌==◌, nat_le, nat_lt, eqb, suc, Bool, true, false, ◌&&◌, ◌||◌, List, [], ◌∷◌, ◌++◌, length, take, drop, Option, Some, None, if◌then◌else◌, refl, ap, sym, ◌∙◌, subst, append_assoc, append-nil, true≢false, arith}
 use Rattle.std.specs.List.{list_all, list_any, starts_with}
 use Rattle.std.specs.Str.{bytes_eq}
-use Rattle.std.proofs.lemmas.Bool.{or_parts, or_right, eqb-true}
+use Rattle.std.proofs.lemmas.Bool.{and_parts, and_from, or_parts, or_right, eqb-true, leb-false, lt-ltb}
 use Rattle.std.proofs.lemmas.Bool.Decides.{nat_tests}
 use Rattle.std.proofs.lemmas.List.{take-append-drop}
 use Rattle.std.proofs.lemmas.List.Folds.{list_any-append}
 use Rattle.std.proofs.lemmas.Slice.Eq.{bytes_eq-Decides}
 use Rattle.cfix_base.specs.declared.number.OrderId.{OrderId}
 use Rattle.c_grammar.specs.File.{Include, Define, Variables, Prototype, Function, File}
-use Rattle.c_grammar.specs.Token.{Ident}
 use Rattle.c_lex.specs.Meaning.{decimal, is_number}
 use Rattle.c_prog.specs.Valid.Operations.{rise_after, are_rising, are_valid_starts}
-use Rattle.c_names.specs.declared.fault.FaultKind.TheVariants.{Twice}
 use Rattle.c_names.specs.Declarations.{Declaration, variables, numbered, function_declaration, replacement_number, declarations_from, declarations, is_of, is_declared}
 use Rattle.c_names.specs.Uses.{OfNumber}
 use Rattle.c_names.specs.Files.{twice_faults, all_twice_faults}
 use Rattle.c_names.specs.Starts.{start_prefix, digits_number, start_number, with_order, starts_of}
 use Rattle.valid_law.proofs.Decimals.{one-spelling, number-small}
-use Rattle.valid_law.proofs.Faultless.{none-right, both, and-left, and-right}
+use Rattle.valid_law.proofs.Faultless.{none-right}
 use Rattle.valid_law.proofs.FileNames.{apart, declared-last, declared-texts}
 use Rattle.valid_law.proofs.Lookups.{same-some}
 
@@ -94,62 +92,51 @@ stands-with n m (o ∷ orders) = by (nat_le m o.number) (stands-with n m orders)
     by true rest = refl
     by false rest = ap (λ (z : Bool). o.number == n || z) rest ∙ swap-or (o.number == n) (m == n) (stands n orders)
 
-or-left : (a b : Bool) → (a || b) ≡ false → a ≡ false
-or-left true b is = is
-or-left false b is = refl
-
-or-right : (a b : Bool) → (a || b) ≡ false → b ≡ false
-or-right true b is = absurd cc
-or-right false b is = is
-
 below : (n k : ℕ) → nat_le n k ≡ true → k == n ≡ false → nat_lt n k ≡ true
 below n k less apart = grind (arith, nat_tests)
-
-above : (n k : ℕ) → nat_le n k ≡ false → nat_lt k n ≡ true
-above n k more = grind (arith, nat_tests)
 
 -- an order that is not there yet is put among orders that rise
 rise-with : (last n : ℕ) (orders : List OrderId) → nat_lt last n ≡ true → rise_after last orders ≡ true → stands n orders ≡ false
     → rise_after last (with_order (Some n) orders) ≡ true
-rise-with last n [] less rise apart = both (nat_lt last n) true less refl
+rise-with last n [] less rise apart = and_from (nat_lt last n) true less refl
 rise-with last n (o ∷ orders) less rise apart =
-    let here : nat_lt last o.number ≡ true = and-left (nat_lt last o.number) (rise_after o.number orders) rise in
-    let later : rise_after o.number orders ≡ true = and-right (nat_lt last o.number) (rise_after o.number orders) rise in
+    let here : nat_lt last o.number ≡ true = (and_parts (nat_lt last o.number) (rise_after o.number orders) rise).0 in
+    let later : rise_after o.number orders ≡ true = (and_parts (nat_lt last o.number) (rise_after o.number orders) rise).1 in
     by (nat_le n o.number) refl here later
-    (λ (high : nat_lt o.number n ≡ true). rise-with o.number n orders high later (or-right (o.number == n) (stands n orders) apart))
+    (λ (high : nat_lt o.number n ≡ true). rise-with o.number n orders high later (or_parts (o.number == n) (stands n orders) apart).1)
   where
     by : (b : Bool) → nat_le n o.number ≡ b → nat_lt last o.number ≡ true → rise_after o.number orders ≡ true
         → (nat_lt o.number n ≡ true → rise_after o.number (with_order (Some n) orders) ≡ true)
         → rise_after last (if b then order_of n ∷ o ∷ orders else o ∷ with_order (Some n) orders) ≡ true
     by true test here later next =
-        both (nat_lt last n) (nat_lt n o.number && rise_after o.number orders) less
-        (both (nat_lt n o.number) (rise_after o.number orders) (below n o.number test (or-left (o.number == n) (stands n orders) apart)) later)
-    by false test here later next = both (nat_lt last o.number) (rise_after o.number (with_order (Some n) orders)) here (next (above n o.number test))
+        and_from (nat_lt last n) (nat_lt n o.number && rise_after o.number orders) less
+        (and_from (nat_lt n o.number) (rise_after o.number orders) (below n o.number test (or_parts (o.number == n) (stands n orders) apart).0) later)
+    by false test here later next = and_from (nat_lt last o.number) (rise_after o.number (with_order (Some n) orders)) here (next (lt-ltb o.number n (leb-false n o.number test)))
 
 rising-with : (n : ℕ) (orders : List OrderId) → are_rising orders ≡ true → stands n orders ≡ false → are_rising (with_order (Some n) orders) ≡ true
 rising-with n [] rise apart = refl
 rising-with n (o ∷ orders) rise apart =
     by (nat_le n o.number) refl
-    (λ (high : nat_lt o.number n ≡ true). rise-with o.number n orders high rise (or-right (o.number == n) (stands n orders) apart))
+    (λ (high : nat_lt o.number n ≡ true). rise-with o.number n orders high rise (or_parts (o.number == n) (stands n orders) apart).1)
   where
     by : (b : Bool) → nat_le n o.number ≡ b → (nat_lt o.number n ≡ true → rise_after o.number (with_order (Some n) orders) ≡ true)
         → are_rising (if b then order_of n ∷ o ∷ orders else o ∷ with_order (Some n) orders) ≡ true
     by true test next =
-        both (nat_lt n o.number) (rise_after o.number orders) (below n o.number test (or-left (o.number == n) (stands n orders) apart)) rise
-    by false test next = next (above n o.number test)
+        and_from (nat_lt n o.number) (rise_after o.number orders) (below n o.number test (or_parts (o.number == n) (stands n orders) apart).0) rise
+    by false test next = next (lt-ltb o.number n (leb-false n o.number test))
 
 abbrev are_small : List OrderId → Bool
 are_small orders = list_all (λ order. nat_le order.number 2147483647) orders
 
 small-with : (n : ℕ) (orders : List OrderId) → nat_le n 2147483647 ≡ true → are_small orders ≡ true → are_small (with_order (Some n) orders) ≡ true
-small-with n [] small all = both (nat_le n 2147483647) true small refl
-small-with n (o ∷ orders) small all = by (nat_le n o.number) (small-with n orders small (and-right (nat_le o.number 2147483647) (are_small orders) all))
+small-with n [] small all = and_from (nat_le n 2147483647) true small refl
+small-with n (o ∷ orders) small all = by (nat_le n o.number) (small-with n orders small (and_parts (nat_le o.number 2147483647) (are_small orders) all).1)
   where
     by : (b : Bool) → are_small (with_order (Some n) orders) ≡ true
         → are_small (if b then order_of n ∷ o ∷ orders else o ∷ with_order (Some n) orders) ≡ true
-    by true rest = both (nat_le n 2147483647) (are_small (o ∷ orders)) small all
+    by true rest = and_from (nat_le n 2147483647) (are_small (o ∷ orders)) small all
     by false rest =
-        both (nat_le o.number 2147483647) (are_small (with_order (Some n) orders)) (and-left (nat_le o.number 2147483647) (are_small orders) all) rest
+        and_from (nat_le o.number 2147483647) (are_small (with_order (Some n) orders)) (and_parts (nat_le o.number 2147483647) (are_small orders) all).0 rest
 
 -- ---- starts of a file
 
@@ -245,4 +232,4 @@ starts-rising before g f (Function head start ops items after ∷ more) none =
 
 -- the starts of a file without faults are those of a program
 pub starts-valid : (file : File) → all_twice_faults [] (declarations file) ≡ [] → are_valid_starts (starts_of file) ≡ true
-starts-valid file none = both (are_rising (starts_of file)) (are_small (starts_of file)) (starts-rising [] 0 0 file none) (starts-small file)
+starts-valid file none = and_from (are_rising (starts_of file)) (are_small (starts_of file)) (starts-rising [] 0 0 file none) (starts-small file)

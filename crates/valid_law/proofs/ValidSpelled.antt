@@ -1,5 +1,5 @@
 -- What a file without faults spells is a valid program.
-use Rattle.std.proofs.Common.{◌≡◌, Bool, true, List, []}
+use Rattle.std.proofs.Common.{◌≡◌, true, []}
 use Rattle.cfix_base.specs.declared.Spot.{Spot}
 use Rattle.c_grammar.specs.File.{File, file_marks}
 use Rattle.c_prog.specs.Valid.{IsValid}
