@@ -1,0 +1,6 @@
+//! Laws of steps and runs, each the contract of a function that does nothing.
+#![tactic(auto)]
+
+mod laws;
+
+pub use laws::{control_goes_along_edges, frames_are_on_edges};
