@@ -31,8 +31,8 @@ use Rattle.c_names.specs.Files.{all_twice_faults, main_form_faults, param_text, 
 use Rattle.c_names.specs.Sources.{function_of, top_functions_of, source_of}
 use Rattle.valid_law.specs.Agrees.{Agrees}
 use Rattle.valid_law.specs.Lexical.{are_lexical}
-use Rattle.valid_law.proofs.Faultless.{none-left, none-right, no_fault, all-append}
-use Rattle.valid_law.proofs.Lexical.{lexical-left, lexical-right}
+use Rattle.valid_law.proofs.Faultless.{none-left, none-right, no_fault}
+use Rattle.valid_law.proofs.Lexical.{lexical-all, lexical-left, lexical-right}
 use Rattle.valid_law.proofs.Scopes.{fits-nothing, fits-params}
 use Rattle.valid_law.proofs.FileNames.{lexical-listed}
 use Rattle.valid_law.proofs.Declarations.{new-name}
@@ -156,11 +156,7 @@ module _ (names : Names) (file : File) (agrees : Agrees names file) where
 
   pub tops-valid : (tops : f.File) → are_lexical (file_marks tops) ≡ true → each (top_faults names) tops ≡ []
       → list_all (is_valid_function file) (each (top_functions_of names) tops) ≡ true
-  tops-valid [] s e = refl
-  tops-valid (top ∷ more) s e =
-      all-append (is_valid_function file) (top_functions_of names top) (each (top_functions_of names) more)
-      (top-valid top (lexical-left (top_marks top) _ s) (none-left (top_faults names top) _ e))
-      (tops-valid more (lexical-right (top_marks top) _ s) (none-right (top_faults names top) _ e))
+  tops-valid = lexical-all top_marks (top_faults names) (top_functions_of names) (is_valid_function file) top-valid
 
 -- the functions of a file without faults
 pub functions-valid : (end : Spot) (file : f.File) → Agrees (names_of file) (file_of (source_of file).tree) → are_lexical (file_marks file) ≡ true → faults_of end file ≡ []

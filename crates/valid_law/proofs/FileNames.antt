@@ -24,7 +24,7 @@ use Rattle.c_names.specs.Declarations.{Variable, global_int_variable, hold_varia
 use Rattle.c_names.specs.Files.{twice_faults, all_twice_faults, no_main_faults, variable_faults, global_int_faults, global_hold_faults, global_mutex_faults, globals_faults, top_faults}
 use Rattle.c_names.specs.Sources.{globals_of, top_globals, top_functions_of, source_of}
 use Rattle.valid_law.specs.Lexical.{are_lexical}
-use Rattle.valid_law.proofs.Lexical.{passes-each, lexical-left, lexical-right, lexical-tail, lexical-parts}
+use Rattle.valid_law.proofs.Lexical.{passes-each, lexical-all, lexical-left, lexical-right, lexical-tail, lexical-parts}
 use Rattle.valid_law.proofs.Faultless.{none-left, none-right, no_fault, all-append}
 use Rattle.valid_law.proofs.Lookups.{bytes-same, bytes-refl, Pairs, pairs}
 
@@ -286,12 +286,10 @@ top-functions-declared names (Function head before ops items after) l e =
 each-declared : {B : Type 0} (names : Names) (name : B → List ℕ) (part : Top → List B)
     → ((top : Top) → are_lexical (top_marks top) ≡ true → top_faults names top ≡ [] → list_all is_declared_name (map name (part top)) ≡ true)
     → (file : File) → are_lexical (file_marks file) ≡ true → each (top_faults names) file ≡ [] → list_all is_declared_name (map name (each part file)) ≡ true
-each-declared names name part here [] l e = refl
-each-declared names name part here (top ∷ more) l e =
-    ap (list_all is_declared_name) (map-append name (part top) (each part more))
-    ∙ all-append is_declared_name (map name (part top)) (map name (each part more))
-    (here top (lexical-left (top_marks top) (file_marks more) l) (none-left (top_faults names top) (each (top_faults names) more) e))
-    (each-declared names name part here more (lexical-right (top_marks top) (file_marks more) l) (none-right (top_faults names top) (each (top_faults names) more) e))
+each-declared names name part here file l e =
+    list_all-map is_declared_name name (each part file)
+    ∙ lexical-all top_marks (top_faults names) part (λ b. is_declared_name (name b))
+    (λ top marked none. sym (list_all-map is_declared_name name (part top)) ∙ here top marked none) file l e
 
 -- the names of a file without faults can be declared together
 pub names-valid : (file : File) → are_lexical (file_marks file) ≡ true → all_twice_faults [] (declarations file) ≡ [] → each (top_faults (names_of file)) file ≡ []

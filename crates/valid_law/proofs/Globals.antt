@@ -22,8 +22,8 @@ use Rattle.c_names.specs.Declarations.{names_of}
 use Rattle.c_names.specs.Files.{variable_faults, number_faults, global_int_faults, global_hold_faults, globals_faults, top_faults}
 use Rattle.c_names.specs.Sources.{signed, global_int_of, global_hold_of, global_mutex_of, globals_of, top_globals, source_of}
 use Rattle.valid_law.specs.Lexical.{are_lexical}
-use Rattle.valid_law.proofs.Faultless.{none-left, none-right, no_fault, all-append}
-use Rattle.valid_law.proofs.Lexical.{passes-each, lexical-left, lexical-right, lexical-tail, lexical-parts}
+use Rattle.valid_law.proofs.Faultless.{none-left, none-right, no_fault}
+use Rattle.valid_law.proofs.Lexical.{passes-each, lexical-all, lexical-left, lexical-right, lexical-tail, lexical-parts}
 use Rattle.valid_law.proofs.FileNames.{lexical-listed}
 
 -- the names that stand for numbers stand for such as a text spells
@@ -106,15 +106,8 @@ top-valid names numbers (Variables qualifiers list end) l e =
 top-valid names numbers (Prototype head end) l e = refl
 top-valid names numbers (Function head before ops items after) l e = refl
 
-tops-valid : (names : Names) → AreNumbers names → (file : File) → are_lexical (file_marks file) ≡ true → each (top_faults names) file ≡ []
-    → list_all (λ global. is_valid_global global.kind) (each (top_globals names) file) ≡ true
-tops-valid names numbers [] l e = refl
-tops-valid names numbers (top ∷ more) l e =
-    all-append (λ global. is_valid_global global.kind) (top_globals names top) (each (top_globals names) more)
-    (top-valid names numbers top (lexical-left (top_marks top) (file_marks more) l) (none-left (top_faults names top) (each (top_faults names) more) e))
-    (tops-valid names numbers more (lexical-right (top_marks top) (file_marks more) l) (none-right (top_faults names top) (each (top_faults names) more) e))
-
 -- the global variables of a file without faults
 pub globals-valid : (file : File) → AreNumbers (names_of file) → are_lexical (file_marks file) ≡ true → each (top_faults (names_of file)) file ≡ []
     → list_all (λ global. is_valid_global global.kind) (source_of file).tree.globals ≡ true
-globals-valid file numbers l e = tops-valid (names_of file) numbers file l e
+globals-valid file numbers =
+    lexical-all top_marks (top_faults (names_of file)) (top_globals (names_of file)) (λ global. is_valid_global global.kind) (top-valid (names_of file) numbers) file

@@ -25,6 +25,7 @@ use Rattle.c_grammar.specs.Expr as e
 use Rattle.c_grammar.specs.File.{File, file_marks}
 use Rattle.c_prog.specs.Valid.Expressions.{is_number}
 use Rattle.c_prog.specs.Valid.Strings.{is_string_byte, is_string}
+use Rattle.c_names.specs.declared.fault.Fault.{Fault}
 use Rattle.c_names.specs.Texts.{kind_read, token_read, tokens_read}
 use Rattle.c_names.specs.Parsed.{IsParsed}
 use Rattle.valid_law.specs.Lexical.{are_bytes, is_lexical, all_lexical, are_lexical}
@@ -83,6 +84,16 @@ parts-lexical (x ∷ xs) h = and_from _ _ h.0 (parts-lexical xs h.1)
 pub lexical-each : {A : Type 0} (f : A → List Mark) (xs : List A) → are_lexical (each f xs) ≡ true → list_all (λ x. are_lexical (f x)) xs ≡ true
 lexical-each f [] h = refl
 lexical-each f (x ∷ xs) h = and_from _ _ (lexical-left (f x) (each f xs) h) (lexical-each f xs (lexical-right (f x) (each f xs) h))
+
+-- where the parts of a list spell what passes a test, if their tokens can be those of a text and they have no fault, so does the list
+pub lexical-all : {A B : Type 0} (marks : A → List Mark) (faults : A → List Fault) (of : A → List B) (p : B → Bool)
+    → ((a : A) → are_lexical (marks a) ≡ true → faults a ≡ [] → list_all p (of a) ≡ true)
+    → (list : List A) → are_lexical (each marks list) ≡ true → each faults list ≡ [] → list_all p (each of list) ≡ true
+lexical-all marks faults of p part [] l none = refl
+lexical-all marks faults of p part (a ∷ more) l none =
+    all-append p (of a) (each of more)
+    (part a (lexical-left (marks a) (each marks more) l) (none-left (faults a) (each faults more) none))
+    (lexical-all marks faults of p part more (lexical-right (marks a) (each marks more) l) (none-right (faults a) (each faults more) none))
 
 -- the tokens of an expression are those of its pieces, whatever their depths
 abbrev pub are_lexical_pieces : List e.Piece → Bool
