@@ -11,7 +11,11 @@ use crate::touches::touches;
 use cfix_base::{AccessId, List, NoMemory, NodeId};
 use std::alloc::Global;
 
-pub fn numbered(alloc: Global, node: NodeId, touches: &[Touch]) -> Result<List<AccessItem>, NoMemory>
+pub fn numbered(
+    alloc: Global,
+    node: NodeId,
+    touches: &[Touch],
+) -> Result<List<AccessItem>, NoMemory>
     requires { length touches.now < 2 ^ 32 }
     ensures { IfOk result (λ items. items ≡ numbered node 0 touches.now) }
 {

@@ -141,7 +141,8 @@ fn act_calls(act: &Act) -> bool
 {
     match act {
         Act::Declare {
-            value: Some(value), ..
+            value: Some(value),
+            ..
         } => value_calls(value),
         Act::Assign { value, .. } => value_calls(value),
         Act::Call(_) => true,
@@ -169,11 +170,7 @@ fn node_calls(node: NodeView<'_>) -> bool
     }
 }
 
-fn add_call(
-    calls: &mut List<NodeId>,
-    number: NodeId,
-    node: NodeView<'_>,
-) -> Result<(), NoMemory>
+fn add_call(calls: &mut List<NodeId>, number: NodeId, node: NodeView<'_>) -> Result<(), NoMemory>
     ensures { OnOk result (calls.new ≡ calls.old ++ if_call number (callee (seen node.entry))) }
 {
     if node_calls(node) {
