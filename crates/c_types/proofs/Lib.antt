@@ -1,0 +1,13 @@
+pub mod Listed
+pub mod Tables
+pub mod Orders
+pub mod Naming
+pub mod Zips
+pub mod Least
+pub mod Told
+pub mod Sound
+pub mod Counted
+pub mod Fits
+pub mod Wholes
+pub mod Declarators
+pub mod Turns

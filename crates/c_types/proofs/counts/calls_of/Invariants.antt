@@ -1,0 +1,8 @@
+use Rattle.std.proofs.Common.{◌≡◌, ◌++◌, map, drop}
+use Rattle.c_raw.specs.Files.{top_view}
+use Rattle.c_grammar.specs.Reader.{each}
+use Rattle.c_names.specs.Sources.{top_calls}
+use Rattle.c_types.proofs.counts.calls_of.Given as goal
+
+abbrev pub invariant-loop-top : goal.invariant-loop-top
+invariant-loop-top l = l.lines ++ each top_calls (map top_view (drop l.top-index l.tops)) ≡ each top_calls (map top_view l.tops)

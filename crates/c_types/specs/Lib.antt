@@ -1,0 +1,5 @@
+pub mod Declaring
+pub mod Counting
+pub mod Outcome
+pub mod Falling
+pub mod Starting
