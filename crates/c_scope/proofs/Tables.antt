@@ -1,19 +1,18 @@
 -- An `IndexMap` with byte strings as keys, as a list of rows.
-use Rattle.std.proofs.Common.{◌≡◌, ℕ, Bool, true, false, cond, List, [], ◌∷◌, Some, None, refl, ap, Vec}
+use Rattle.std.proofs.Common.{◌≡◌, ℕ, Bool, true, false, cond, List, [], ◌∷◌, Some, refl, ap, Vec}
 use Rattle.std.specs.Str.{bytes_eq}
 use Rattle.std.specs.Map.{lookup}
 use Rattle.indexmap.specs.IndexMap.{insert_entry}
-use Rattle.c_scope.specs.declared.table.Row.{Row}
 use Rattle.c_scope.specs.Tables.{rows_of, row_of, with_row}
 
-pub lookup-rows : {G : Type 0} (text : List ℕ) (es : List (Vec ℕ G × Row)) → lookup (λ k. bytes_eq text k.items) es ≡ row_of text (rows_of es)
+pub lookup-rows : {G V : Type 0} (text : List ℕ) (es : List (Vec ℕ G × V)) → lookup (λ k. bytes_eq text k.items) es ≡ row_of text (rows_of es)
 lookup-rows text [] = refl
 lookup-rows text (e ∷ es) = ap (λ rest. cond (bytes_eq text e.0.items) (Some e.1) rest) (lookup-rows text es)
 
-pub insert-rows : {G : Type 0} (key : Vec ℕ G) (row : Row) (es : List (Vec ℕ G × Row))
+pub insert-rows : {G V : Type 0} (key : Vec ℕ G) (row : V) (es : List (Vec ℕ G × V))
     → rows_of (insert_entry (λ x y. bytes_eq x.items y.items) es key row) ≡ with_row key.items row (rows_of es)
 insert-rows key row [] = refl
-insert-rows {G} key row (e ∷ es) = by (bytes_eq key.items e.0.items) (insert-rows key row es)
+insert-rows {G} {V} key row (e ∷ es) = by (bytes_eq key.items e.0.items) (insert-rows key row es)
   where
     by : (b : Bool)
         → rows_of (insert_entry (λ (x y : Vec ℕ G). bytes_eq x.items y.items) es key row) ≡ with_row key.items row (rows_of es)

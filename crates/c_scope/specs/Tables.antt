@@ -1,5 +1,5 @@
 -- What a file says of the names that it declares.
-use Rattle.std.specs.Prelude.{ℕ, Bool, false, true, ◌||◌, List, [], ◌∷◌, map, Option, Some, None, if◌then◌else◌}
+use Rattle.std.specs.Prelude.{ℕ, false, true, ◌||◌, List, [], ◌∷◌, map, Option, Some, None, if◌then◌else◌}
 use Rattle.std.specs.Str.{bytes_eq}
 use Rattle.std.specs.declared.vec.Vec.{Vec}
 use Rattle.c_prog.specs.declared.function.FnKind.{FnKind}
@@ -14,16 +14,16 @@ abbrev pub Rows : Type 0
 Rows = List (List ℕ × Row)
 
 -- what a table keeps, by the bytes of its names
-abbrev pub rows_of : {G : Type 0} → List (Vec ℕ G × Row) → Rows
+abbrev pub rows_of : {G V : Type 0} → List (Vec ℕ G × V) → List (List ℕ × V)
 rows_of es = map (λ e. (e.0.items, e.1)) es
 
 -- the row of a name
-abbrev pub row_of : List ℕ → Rows → Option Row
+abbrev pub row_of : {V : Type 0} → List ℕ → List (List ℕ × V) → Option V
 row_of text [] = None
 row_of text (e ∷ es) = if bytes_eq text e.0 then Some e.1 else row_of text es
 
 -- with this row for the name
-abbrev pub with_row : List ℕ → Row → Rows → Rows
+abbrev pub with_row : {V : Type 0} → List ℕ → V → List (List ℕ × V) → List (List ℕ × V)
 with_row text row [] = (text, row) ∷ []
 with_row text row (e ∷ es) = if bytes_eq text e.0 then (e.0, row) ∷ es else e ∷ with_row text row es
 

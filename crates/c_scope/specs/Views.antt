@@ -1,5 +1,4 @@
 -- Kinds, locals, meanings and uses, as the definitions speak of them.
-use Rattle.std.specs.Prelude.{ℕ}
 use Rattle.c_prog.specs.Valid.Scope as s
 use Rattle.c_names.specs.Uses as u
 use Rattle.c_scope.specs.declared.kind.VarKind.{VarKind}

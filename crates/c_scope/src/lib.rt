@@ -2,10 +2,12 @@
 //! (6.2.1 of ISO/IEC 9899:2011). The rules of single names, and the least fault.
 #![tactic(auto)]
 
+mod entry;
 mod kind;
 mod least;
 mod local;
 mod notes;
+mod places;
 mod scope;
 mod sizes;
 mod table;

@@ -1,22 +1,25 @@
-ghost use Rattle.std.specs.Prelude.{◌≡◌, ◌+◌, ◌<◌, ◌≤◌, ◌^◌, OnOk, length, option_map, reverse, drop, find};
-ghost use Rattle.std.specs.List.{list_any};
+ghost use Rattle.std.specs.Prelude.{◌≡◌, ℕ, ◌+◌, ◌-◌, ◌<◌, ◌≤◌, ◌^◌, ◌++◌, ◌∷◌, [], Option, OnOk, OnErr, length, take, option_map, slice_get};
 ghost use Rattle.std.specs.Option.{option_copied};
-ghost use Rattle.std.specs.Str.{bytes_eq};
-ghost use Rattle.c_prog.specs.Valid.Scope.{nothing_declared, is_named, is_in_block, local_named, declared, entered, passed};
+ghost use Rattle.c_prog.specs.Valid.Scope.{nothing_declared, is_in_block, local_named, declared, entered};
 ghost use Rattle.c_scope.specs.Views.{kind_view, local_view};
-ghost use Rattle.c_scope.specs.Scopes.{named, left};
+ghost use Rattle.c_scope.specs.Places.{entry_view, Indexed};
+ghost use Rattle.c_scope.specs.Scopes.{left};
 
+use crate::entry::Entry;
 use crate::kind::VarKind;
 use crate::local::Local;
+use crate::places::Places;
 use cfix_base::{List, NoMemory};
+use sqlite_items::Items;
 use std::alloc::Global;
 use std::marker::Model;
 
 /// The parameters and locals that are declared before a place, those of closed blocks not among
-/// them, and how many stand before the place.
+/// them, and how many stand before the place. A look-up takes the same time in every scope.
 #[derive(Drop)]
 pub struct Scope {
-    locals: Vec<Local>,
+    locals: Items<Entry>,
+    places: Places,
     first: usize,
     count: u32,
 }
@@ -24,50 +27,86 @@ pub struct Scope {
 impl Model for Scope {
     ghost use Rattle.std.specs.Prelude.{length, ◌≤◌, map, reverse, take, drop};
     ghost use Rattle.c_prog.specs.Valid.Scope as valid;
-    ghost use Rattle.c_scope.specs.Views.{local_view};
+    ghost use Rattle.c_scope.specs.Places.{entry_view, Indexed};
 
     ghost Value = { valid.Scope };
 
-    ghost view = { λ s. record { block = map local_view (reverse (drop s.first s.locals.items)); around = map local_view (reverse (take s.first s.locals.items)); count = s.count } };
+    ghost view = { λ s. record { block = map entry_view (reverse (drop s.first s.locals)); around = map entry_view (reverse (take s.first s.locals)); count = s.count } };
 
-    ghost invariant = { λ s. s.first ≤ length s.locals.items };
+    ghost invariant = { λ s. (s.first ≤ length s.locals) × Indexed s.places s.locals };
 }
 
-fn is_named(local: &Local, text: &[u8]) -> bool
-    ensures { result ≡ is_named text.now (local_view local.now) }
+// Adds a local, which hides the innermost of its name.
+fn open(
+    locals: &mut Items<Entry>,
+    places: &mut Places,
+    local: Local,
+    key: Vec<u8>,
+) -> Result<(), NoMemory>
+    requires named { key.items ≡ local.name }
+    requires indexed { Indexed places.old locals.old }
+    ensures added { OnOk result ((hidden : Option ℕ) × (locals.new ≡ locals.old ++ record { local = local; hidden = hidden } ∷ [])) }
+    ensures unchanged { OnErr result (locals.new ≡ locals.old) }
+    ensures indexed { Indexed places.new locals.new }
 {
-    text == local.name.as_slice()
+    let hidden = places.get(key.as_slice());
+    let place = locals.len();
+    locals.push(Entry { local, hidden })?;
+    match places.set(key, Some(place)) {
+        Ok(()) => Ok(()),
+        Err(NoMemory) => {
+            locals.pop();
+            Err(NoMemory)
+        }
+    }
 }
 
-fn latest<'a>(locals: &'a [Local], text: &[u8]) -> Option<&'a Local>
-    ensures { option_copied result ≡ find (named text.now) (reverse locals.now) }
+// Takes the last local away, and shows the one that it hides.
+fn close(locals: &mut Items<Entry>, places: &mut Places)
+    requires indexed { Indexed places.old locals.old }
+    ensures indexed { Indexed places.new locals.new }
+    ensures shorter { locals.new ≡ take (length locals.old - 1) locals.old }
 {
-    locals.iter().rev().find(|local| is_named(local, text))
+    match locals.pop() {
+        None => {}
+        Some(entry) => {
+            let _ = places.set(entry.local.name.into_vec(), entry.hidden);
+        }
+    }
 }
 
-fn has_named(locals: &[Local], text: &[u8]) -> bool
-    ensures { result ≡ list_any (named text.now) (reverse locals.now) }
+// Takes all locals but the first away.
+fn close_all(locals: &mut Items<Entry>, places: &mut Places, first: usize)
+    requires indexed { Indexed places.old locals.old }
+    requires within { first ≤ length locals.old }
+    ensures indexed { Indexed places.new locals.new }
+    ensures shorter { locals.new ≡ take first locals.old }
 {
-    locals.iter().rev().any(|local| is_named(local, text))
+    while locals.len() > first {
+        close(locals, places);
+    }
 }
 
-// The items from a place on.
-fn behind(locals: &[Local], first: usize) -> &[Local]
-    requires { first ≤ length locals.now }
-    ensures { result.now ≡ drop first locals.now }
+// The local at a place.
+fn local_at(locals: &[Entry], place: usize) -> Option<&Local>
+    ensures { option_map local_view (option_copied result) ≡ option_map entry_view (slice_get locals.now place) }
 {
-    &locals[first..]
+    match locals.get(place) {
+        Some(entry) => Some(&entry.local),
+        None => None,
+    }
 }
 
 impl Scope {
-    ghost use Rattle.c_prog.specs.Valid.Scope.{nothing_declared, is_named, is_in_block, local_named, declared, entered, passed};
+    ghost use Rattle.c_prog.specs.Valid.Scope.{nothing_declared, is_in_block, local_named, declared, entered};
 
     /// The scope before the parameters of a function.
     pub fn new(alloc: Global) -> Scope
         ensures { result ≡ nothing_declared }
     {
         Scope {
-            locals: Vec::new(alloc),
+            locals: Items::new(alloc),
+            places: Places::new(alloc),
             first: 0,
             count: 0,
         }
@@ -84,14 +123,20 @@ impl Scope {
     pub fn find(&self, text: &[u8]) -> Option<&Local>
         ensures { option_map local_view (option_copied result) ≡ local_named text.now self.now }
     {
-        latest(self.locals.as_slice(), text)
+        match self.places.get(text) {
+            None => None,
+            Some(place) => local_at(self.locals.as_slice(), place),
+        }
     }
 
     /// Whether the innermost block has a local of this name.
     pub fn is_in_block(&self, text: &[u8]) -> bool
         ensures { result ≡ is_in_block text.now self.now }
     {
-        has_named(behind(self.locals.as_slice(), self.first), text)
+        match self.places.get(text) {
+            None => false,
+            Some(place) => self.first <= place,
+        }
     }
 
     /// Declares a local in the innermost block, with the next number.
@@ -100,8 +145,10 @@ impl Scope {
         ensures { OnOk result (self.new ≡ declared text.now (kind_view kind) self.old) }
     {
         let name = List::from_vec(text.to_vec(alloc)?);
+        let key = text.to_vec(alloc)?;
         let number = self.count;
-        self.locals.push(Local { name, kind, number })?;
+        let local = Local { name, kind, number };
+        open(&mut self.locals, &mut self.places, local, key)?;
         self.count = number + 1;
         Ok(())
     }
@@ -121,7 +168,7 @@ impl Scope {
         requires { outer ≤ length self.old.around }
         ensures { self.new ≡ left outer self.old }
     {
-        self.locals.truncate(self.first);
+        close_all(&mut self.locals, &mut self.places, self.first);
         self.first = outer;
     }
 }
