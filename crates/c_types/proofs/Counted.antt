@@ -5,7 +5,6 @@ use Rattle.std.proofs.lemmas.List.{length-append, length-map, append-nil}
 use Rattle.std.proofs.lemmas.Bool.Decides.{nat_tests}
 use Rattle.cfix_base.specs.declared.Spot.{Spot}
 use Rattle.c_lex.specs.declared.fault.LexFault.TheVariants as f
-use Rattle.c_lex.specs.declared.token.Token as t
 use Rattle.c_lex.specs.Pieces.{Piece, spelling}
 use Rattle.c_lex.specs.Meaning.{Verdict, Between, Counts, Refuses, verdict}
 use Rattle.c_lex.specs.Faults.{token_of, tokens_behind, tokens_of, fault_of, fault_behind, pieces_spelled, spot_behind, HaveNoFault}
@@ -15,10 +14,9 @@ use Rattle.c_grammar.specs.declared.word.Word.TheVariants as w
 use Rattle.c_grammar.specs.declared.sign.Sign.TheVariants as s
 use Rattle.c_grammar.specs.Op.{ops_marks}
 use Rattle.c_grammar.specs.Cond.{cond_marks}
-use Rattle.c_grammar.specs.Simple.{value_marks, simple_marks}
 use Rattle.c_grammar.specs.Decl.{Hold, OneThread, Threads, LocalInt, OneLocal, SetLocal, LocalArray, Decl, Ints, Holds, LoopInt, OneLoop, SetLoop, GlobalInt, OneGlobal, SetGlobal, GlobalArray, GlobalMutex, OneMutex, SetMutex, Globals, GlobalInts, GlobalHolds, GlobalMutexes, hold_marks, more_holds_marks, local_int_marks, decl_marks, loop_int_marks, global_int_marks, global_mutex_marks, globals_marks, qualifiers_marks}
-use Rattle.c_grammar.specs.Stmt.{First, FirstInts, FirstPlain, Stmt, Block, Nothing, Simply, Jumps, If, While, For, Else, NoElse, ElseDo, Items, NoItems, AndItem, Item, Declares, Does, first_marks, loop_step_marks, jump_marks, stmt_marks, else_marks, items_marks, item_marks}
-use Rattle.c_grammar.specs.File.{return_word, Param, ParamOf, Params, NoParams, VoidParams, SomeParams, Head, PlainHead, ThreadHead, Top, Include, Define, Variables, Prototype, Function, File, param_marks, params_marks, name_marks, static_marks, head_marks, top_marks, file_marks, file_tokens}
+use Rattle.c_grammar.specs.Stmt.{First, FirstInts, FirstPlain, Stmt, Block, Nothing, Simply, Jumps, If, While, For, Else, NoElse, ElseDo, Items, NoItems, AndItem, Item, Declares, Does, first_marks, loop_step_marks, stmt_marks, else_marks, items_marks, item_marks}
+use Rattle.c_grammar.specs.File.{return_word, Param, ParamOf, Params, NoParams, VoidParams, SomeParams, Head, PlainHead, ThreadHead, Top, Include, Define, Variables, Prototype, Function, File, param_marks, params_marks, name_marks, static_marks, head_marks, top_marks, file_marks}
 use Rattle.c_names.specs.Declarations.{global_int_variable, hold_variable, mutex_variable, variables, param_of, params_of, head_params}
 use Rattle.c_names.specs.Parsed.{IsParsed}
 use Rattle.c_names.specs.Scopes.{local_int_declared, hold_declared, loop_int_declared, decl_declared, first_declared, stmt_locals, else_locals, items_locals, item_locals}

@@ -1,5 +1,5 @@
 -- The numbers of a file that is read are not below 0, and so are those that its names are defined as.
-use Rattle.std.proofs.Common.{◌≡◌, ℕ, ◌+◌, suc, ℤ, pos, Bool, true, false, ◌&&◌, cond, List, [], ◌∷◌, ◌++◌, map, length, Option, Some, None, refl, ap, sym, subst, ◌∙◌, arith}
+use Rattle.std.proofs.Common.{◌≡◌, ℕ, ◌+◌, suc, pos, Bool, true, false, ◌&&◌, cond, List, [], ◌∷◌, ◌++◌, map, length, Some, refl, ap, sym, subst, ◌∙◌, arith}
 use Rattle.std.specs.Prelude.{if◌then◌else◌, int_le, leb}
 use Rattle.std.proofs.lemmas.Bool.Decides.{nat_tests}
 use Rattle.std.specs.List.{list_all}
@@ -8,26 +8,23 @@ use Rattle.cfix_base.specs.declared.Spot.{Spot}
 use Rattle.c_lex.specs.declared.token.Token as t
 use Rattle.c_lex.specs.declared.token.Kind.TheVariants as lexed
 use Rattle.c_lex.specs.Pieces.{Piece, Blank, LineComment, ClosedComment, UnclosedComment, Identifier, Numeral, Literal, Punctuator, Stray, spelling}
-use Rattle.c_lex.specs.Meaning.{Verdict, Between, Counts, Refuses, verdict, is_number, decimal}
+use Rattle.c_lex.specs.Meaning.{Counts, Refuses, verdict, is_number, decimal}
 use Rattle.c_lex.specs.Faults.{token_of, tokens_behind, tokens_of, spot_behind}
 use Rattle.cfix_base.specs.Words.{is_word_text}
 use Rattle.c_lex.specs.declared.fault.Refusal.TheVariants.{BadNumber}
 use Rattle.c_grammar.specs.declared.word.Word.{Word}
-use Rattle.c_grammar.specs.declared.word.Word.TheVariants as w
 use Rattle.c_grammar.specs.declared.sign.Sign.{Sign}
 use Rattle.c_grammar.specs.declared.sign.Sign.TheVariants as s
 use Rattle.c_grammar.specs.Reader.{each, tokens}
-use Rattle.c_grammar.specs.Token.{Kind, IsNumber, IsWord, IsSign, IsOther, Token, Mark, Ident, ident, word, sign, numeral}
+use Rattle.c_grammar.specs.Token.{Kind, IsNumber, IsWord, IsSign, Token, Mark, sign}
 use Rattle.c_grammar.specs.Spelling.{word_among, words, word_text, word_kind, sign_among, signs, sign_text, sign_kind}
-use Rattle.c_grammar.specs.Op.{ops_marks}
 use Rattle.c_grammar.specs.Decl.{Size, Count, Named, GlobalInt, OneGlobal, SetGlobal, GlobalArray, Globals, GlobalInts, GlobalHolds, GlobalMutexes, minus_marks, size_marks, global_int_marks, globals_marks, qualifiers_marks}
-use Rattle.c_grammar.specs.Stmt.{items_marks}
-use Rattle.c_grammar.specs.File.{Replacement, Plainly, InParens, Top, Include, Define, Variables, Prototype, Function, File, replacement_marks, top_marks, file_marks, head_marks}
+use Rattle.c_grammar.specs.File.{Replacement, Plainly, InParens, Top, Include, Define, Variables, Prototype, Function, File, replacement_marks, top_marks, file_marks}
 use Rattle.c_names.specs.Uses.{Meaning, OfVariable, OfFunction, OfNumber, defined_number}
-use Rattle.c_names.specs.Declarations.{Variable, Declaration, numbered, variables, function_declaration, replacement_number, declarations_from, names_of, is_of, first_meaning}
+use Rattle.c_names.specs.Declarations.{Variable, Declaration, numbered, variables, replacement_number, declarations_from, names_of, is_of, first_meaning}
 use Rattle.c_names.specs.Names.{number_or_one, size_number}
 use Rattle.c_names.specs.Parsed.{IsParsed}
-use Rattle.c_names.specs.Texts.{kind_read, token_read, tokens_read}
+use Rattle.c_names.specs.Texts.{token_read, tokens_read}
 use Rattle.c_types.specs.Counting.{has_value, globals_fit, top_fits}
 
 -- tests of lists

@@ -1,6 +1,6 @@
 -- Lists whose items have their commas before them.
-use Rattle.std.proofs.Common.{◌≡◌, ℕ, ◌+◌, List, [], ◌∷◌, ◌++◌, map, length, refl, ap, ◌∙◌}
-use Rattle.std.proofs.lemmas.List.{length-map, map-append}
+use Rattle.std.proofs.Common.{◌≡◌, List, [], ◌∷◌, ◌++◌, map, length, refl, ap}
+use Rattle.std.proofs.lemmas.List.{length-map}
 use Rattle.c_grammar.specs.Reader.{each}
 
 -- what is seen of the items behind their commas

@@ -1,12 +1,9 @@
 -- What the table of declarations says of each name: what the declarations say of it.
 use Rattle.std.proofs.Common.{◌≡◌, ℕ, Bool, true, false, ◌||◌, cond, List, [], ◌∷◌, ◌++◌, Option, Some, None, refl, ap, sym, subst, ◌∙◌}
-use Rattle.std.specs.List.{list_any}
 use Rattle.std.specs.Str.{bytes_eq}
 use Rattle.std.proofs.lemmas.List.Folds.{list_any-append}
 use Rattle.std.proofs.lemmas.Slice.Eq.{bytes_eq-Decides}
-use Rattle.c_prog.specs.declared.function.FnKind.{FnKind}
 use Rattle.c_prog.specs.Valid.Scope as s
-use Rattle.c_names.specs.declared.fault.Fault.{Fault}
 use Rattle.c_names.specs.declared.fault.FaultKind.TheVariants.{Twice}
 use Rattle.c_names.specs.Faults.{fault_if}
 use Rattle.c_names.specs.Uses.{Meaning, OfVariable, OfFunction, OfNumber, Known, Form}
@@ -16,7 +13,7 @@ use Rattle.c_names.specs.Files.{all_twice_faults}
 use Rattle.c_scope.specs.declared.table.Row.{Row}
 use Rattle.c_scope.specs.Views.{kind_view, meaning_view}
 use Rattle.c_scope.specs.Tables.{Rows, row_of, with_row, fresh, form_or, joined, known_of, names_from}
-use Rattle.c_types.specs.Declaring.{kind_kept, meaning_kept, with_name, with_declarations, has_row, again_faults, all_again_faults}
+use Rattle.c_types.specs.Declaring.{kind_kept, meaning_kept, with_name, with_declarations, has_row, all_again_faults}
 
 -- Rows.
 

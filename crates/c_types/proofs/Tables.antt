@@ -1,10 +1,6 @@
 -- The table that declarations make says of each name what they say of it.
-use Rattle.std.proofs.Common.{◌≡◌, ℕ, Bool, true, false, ◌||◌, cond, List, [], ◌∷◌, ◌++◌, Option, Some, None, refl, ap, sym, ◌∙◌, subst}
-use Rattle.std.specs.Prelude.{if◌then◌else◌}
-use Rattle.std.specs.List.{list_any}
-use Rattle.std.specs.Str.{bytes_eq}
+use Rattle.std.proofs.Common.{◌≡◌, ℕ, List, [], ◌∷◌, ◌++◌, refl, ap, sym, ◌∙◌}
 use Rattle.c_grammar.specs.File.{Top, Include, Define, Variables, Prototype, Function, File}
-use Rattle.c_names.specs.declared.fault.Fault.{Fault}
 use Rattle.c_names.specs.Declarations.{Declaration, declarations_from}
 use Rattle.c_scope.specs.Tables.{Rows}
 use Rattle.c_types.specs.Declaring.{with_name, meaning_kept, with_declarations, again_faults, all_again_faults, top_declarations, globals_behind, functions_behind}

@@ -1,5 +1,5 @@
 -- What is told of the fault that is kept.
-use Rattle.std.proofs.Common.{◌≡◌, List, [], None, sym, ◌∙◌}
+use Rattle.std.proofs.Common.{List, None}
 use Rattle.c_names.specs.declared.fault.Fault.{Fault}
 use Rattle.c_names.specs.declared.fault.FaultKind.TheVariants as kind
 use Rattle.c_names.specs.Faults.{fault, noted_all}

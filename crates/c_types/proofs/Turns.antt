@@ -1,10 +1,10 @@
 -- One turn of a walk over the parts of a file.
-use Rattle.std.proofs.Common.{◌≡◌, ℕ, ◌+◌, ◌≤◌, ◌<◌, ◌^◌, true, ◌&&◌, Bool, false, List, [], ◌∷◌, ◌++◌, Option, refl, ap, sym, subst, ◌∙◌, append_assoc, arith}
+use Rattle.std.proofs.Common.{◌≡◌, ℕ, ◌+◌, ◌≤◌, ◌<◌, ◌^◌, true, ◌&&◌, Bool, false, List, ◌∷◌, ◌++◌, Option, ap, sym, subst, ◌∙◌, append_assoc, arith}
 use Rattle.std.specs.List.{list_all}
 use Rattle.c_grammar.specs.Reader.{each}
 use Rattle.c_grammar.specs.File.{Top, Include, Define, Variables, Prototype, Function, File}
 use Rattle.c_names.specs.declared.fault.Fault.{Fault}
-use Rattle.c_names.specs.Declarations.{Declaration, declarations_from}
+use Rattle.c_names.specs.Declarations.{declarations_from}
 use Rattle.c_names.specs.Faults.{noted_all}
 use Rattle.c_scope.specs.Tables.{Rows}
 use Rattle.c_scope.proofs.Faults.{noted_all-append}

@@ -1,7 +1,7 @@
 -- How many variables, functions, parameters and locals a file declares.
-use Rattle.std.specs.Prelude.{ℕ, suc, ◌+◌, Bool, true, pos, int_le, List, [], ◌∷◌, length}
+use Rattle.std.specs.Prelude.{ℕ, suc, ◌+◌, Bool, true, pos, int_le, [], ◌∷◌, length}
 use Rattle.std.specs.List.{list_all}
-use Rattle.c_grammar.specs.Decl.{GlobalInt, OneGlobal, SetGlobal, GlobalArray, Globals, GlobalInts, GlobalHolds, GlobalMutexes}
+use Rattle.c_grammar.specs.Decl.{GlobalInt, OneGlobal, SetGlobal, GlobalArray, Globals, GlobalInts}
 use Rattle.c_grammar.specs.File.{Top, Variables, Function, File}
 use Rattle.c_names.specs.Declarations.{variables, head_params}
 use Rattle.c_names.specs.Names.{size_number}

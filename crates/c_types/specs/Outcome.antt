@@ -1,7 +1,6 @@
 -- How a fault is told.
 use Rattle.std.specs.Prelude.{◌≡◌, List, Option, Some}
 use Rattle.c_names.specs.declared.fault.Fault.{Fault}
-use Rattle.c_names.specs.declared.fault.FaultKind.{FaultKind}
 use Rattle.c_names.specs.declared.fault.FaultKind.TheVariants as kind
 use Rattle.c_names.specs.Faults.{fault, IsLeast}
 use Rattle.c_types.specs.declared.fault.NameFault.{NameFault}

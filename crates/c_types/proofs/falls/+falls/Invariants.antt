@@ -1,4 +1,4 @@
-use Rattle.std.proofs.Common.{◌≡◌, Bool, ◌&&◌, ◌||◌, map, drop}
+use Rattle.std.proofs.Common.{◌≡◌, ◌&&◌, ◌||◌, map, drop}
 use Rattle.c_prog.specs.Valid.Falls.{fall_of, all_fall, some_breaks}
 use Rattle.c_types.proofs.falls.+falls.Given as goal
 

@@ -1,5 +1,5 @@
 -- Behind the last line nothing is added.
-use Rattle.std.proofs.Common.{◌≡◌, ◌++◌, map, drop, ap, sym, ◌∙◌}
+use Rattle.std.proofs.Common.{◌++◌, map, drop, ap, sym, ◌∙◌}
 use Rattle.std.proofs.lemmas.List.{append-nil}
 use Rattle.c_prog.specs.declared.access_item.AccessItem.{AccessItem}
 use Rattle.c_types.proofs.Zips.{zip-none}

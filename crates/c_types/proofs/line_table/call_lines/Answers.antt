@@ -1,5 +1,5 @@
 -- Behind the last line nothing is added.
-use Rattle.std.proofs.Common.{◌≡◌, ◌++◌, drop, ap, sym, ◌∙◌}
+use Rattle.std.proofs.Common.{◌++◌, drop, ap, sym, ◌∙◌}
 use Rattle.std.proofs.lemmas.List.{append-nil}
 use Rattle.c_types.proofs.Zips.{zip-none}
 use Rattle.c_types.proofs.line_table.call_lines.Goals as goal

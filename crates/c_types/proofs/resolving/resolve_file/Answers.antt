@@ -1,5 +1,5 @@
 -- A file that is read declares few names, and where no fault is kept there is none.
-use Rattle.std.proofs.Common.{◌≡◌, map, sym, ◌∙◌}
+use Rattle.std.proofs.Common.{map, sym, ◌∙◌}
 use Rattle.c_raw.specs.Files.{top_view}
 use Rattle.c_names.specs.Files.{faults_of}
 use Rattle.c_types.proofs.Counted.{count-parsed}

@@ -1,5 +1,5 @@
 -- The faults of a file in their order.
-use Rattle.std.proofs.Common.{map, ap, ◌∙◌, arith}
+use Rattle.std.proofs.Common.{map, arith}
 use Rattle.c_raw.specs.Files.{top_view}
 use Rattle.c_scope.specs.Tables.{names_from}
 use Rattle.c_types.proofs.Wholes.{whole, fits-by}
