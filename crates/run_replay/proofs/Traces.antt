@@ -1,5 +1,5 @@
 -- Traces step by step.
-use Rattle.std.proofs.Common.{◌≡◌, ℕ, ℤ, zero, suc, ◌+◌, ◌<◌, ◌≤◌, Bool, true, false, List, [], ◌∷◌, ◌++◌, drop, length, get_or, slice_get, Option, Some, None, inl, inr, refl, ap, sym, ◌∙◌, subst, append_assoc, arith}
+use Rattle.std.proofs.Common.{◌≡◌, ℕ, ℤ, zero, suc, ◌+◌, ◌<◌, ◌≤◌, List, [], ◌∷◌, ◌++◌, drop, length, get_or, slice_get, Option, Some, None, inl, inr, refl, ap, sym, ◌∙◌, subst, append_assoc, arith}
 use Rattle.std.proofs.lemmas.List.{append-nil, drop_more, length-append}
 use Rattle.cfix_base.specs.declared.entry.Entry.{Entry}
 use Rattle.cfix_outside.specs.Faults.{Rose}
@@ -21,7 +21,7 @@ use Rattle.run_replay.specs.declared.fault.ReplayFault.{ReplayFault}
 use Rattle.run_replay.specs.declared.fault.ReplayFault.TheVariants as fault
 use Rattle.run_replay.specs.Trace.{Closes, IsTrace, last_from, last_on, refused, refused_from, refused_on, seen, seen_from, seen_on, step_lines}
 use Rattle.run_replay.specs.Replays.{Cause, IsBegun, IsCut, IsCutTrace, IsDone, IsRefused}
-use Rattle.run_replay.specs.Steps.{IsClosed, IsClosedInPart, IsPut, IsPutInPart, IsUnderWay, NoLine}
+use Rattle.run_replay.specs.Steps.{IsClosed, IsClosedInPart, IsPut, IsUnderWay, NoLine}
 
 lines-append : (tree : Tree) (n : ℕ) (xs ys : List Seen) → step_lines tree n (xs ++ ys) ≡ step_lines tree n xs ++ step_lines tree (n + length xs) ys
 lines-append tree n [] ys = let same : n ≡ n + 0 = omega arith in ap (λ m. step_lines tree m ys) same

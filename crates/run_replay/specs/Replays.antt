@@ -4,13 +4,10 @@ use Rattle.cfix_base.specs.declared.entry.Entry.{Entry}
 use Rattle.cfix_outside.specs.Faults.{Rose}
 use Rattle.cfix_outside.specs.Sinks.{Gained, GainedFront}
 use Rattle.c_prog.specs.declared.tree.Tree.{Tree}
-use Rattle.step_state.specs.declared.state.Configuration.{Configuration}
-use Rattle.step_state.specs.Start.{start}
 use Rattle.step_state.specs.Run.{Seen}
-use Rattle.step_tables.specs.TreeCode.{tree_code}
 use Rattle.run_replay.specs.declared.fault.ReplayFault.{ReplayFault}
 use Rattle.run_replay.specs.declared.fault.ReplayFault.TheVariants as fault
-use Rattle.run_replay.specs.Trace.{Closes, IsTrace, last_from, refused, seen, step_lines}
+use Rattle.run_replay.specs.Trace.{IsTrace, refused, seen, step_lines}
 
 -- each entry made a step, and the whole trace came
 pub record IsDone (tree : Tree) (input : List ℤ) (es : List Entry) (old new : Option (List ℕ)) : Type 0 where

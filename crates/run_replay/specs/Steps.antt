@@ -1,5 +1,5 @@
 -- One step of a replay, and what is so before each entry.
-use Rattle.std.specs.Prelude.{◌≡◌, ℕ, ℤ, ◌+◌, ◌<◌, ◌≤◌, Bool, List, ◌++◌, drop, length, Option, Some, None}
+use Rattle.std.specs.Prelude.{◌≡◌, ℕ, ℤ, ◌+◌, ◌<◌, Bool, List, ◌++◌, drop, length, Option, Some, None}
 use Rattle.cfix_base.specs.declared.entry.Entry.{Entry}
 use Rattle.cfix_outside.specs.Faults.{Rose}
 use Rattle.cfix_outside.specs.Sinks.{Gained, GainedFront}

@@ -1,4 +1,4 @@
-use Rattle.std.proofs.Common.{rules, ◌≡◌, ◌+◌, ◌≤◌, ◌<◌, false, [], ◌∷◌, length, get_or, drop, arith}
+use Rattle.std.proofs.Common.{false, get_or, arith}
 use Rattle.cfix_base.specs.declared.entry.Entry.{Entry}
 use Rattle.run_replay.proofs.Traces.{left_at, left_none, way_stops, way_put, way_done, way_fails}
 use Rattle.run_replay.proofs.replaying.replay.Goals as goal
