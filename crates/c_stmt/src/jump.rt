@@ -3,7 +3,7 @@ ghost use Rattle.std.specs.Prelude.{drop};
 ghost use Rattle.c_raw.specs.Stmts.{bare_view, bare_block_view, value_block_view, jump_view};
 ghost use Rattle.c_grammar.specs.ReadStmt.{read_bare};
 ghost use Rattle.c_cursor.specs.Gives.{Gives};
-ghost use Rattle.c_stmt.specs.Jumps.{jump_at, bare_block_from, value_block_from};
+ghost use Rattle.c_stmt.specs.Jumps.{jump_at, return_from, bare_block_from, value_block_from};
 
 use c_cursor::{Cursor, ReadFault};
 use c_expr::{op, ops, value};
@@ -32,8 +32,36 @@ pub(crate) fn bare_of(cursor: &Cursor<'_>, at: usize) -> Result<(Bare, usize), R
     Ok((Bare::ReturnNull { at: word, null }, at))
 }
 
+/// A `return` behind its word.
+#[tactic(auto, unfolding(crate::specs::Jumps::return_from))]
+fn return_of(
+    cursor: &Cursor<'_>,
+    alloc: Global,
+    depth: u32,
+    word: Spot,
+    at: usize,
+) -> Result<(Jump, usize), ReadFault>
+    ensures { Gives jump_view cursor.now.tokens result (return_from depth word (drop at cursor.now.tokens)) }
+{
+    if cursor.is_word(Word::Null, at) {
+        let (null, at) = cursor.word(Word::Null, at)?;
+        let (end, at) = cursor.sign(Sign::Semicolon, at)?;
+        let bare = Bare::ReturnNull { at: word, null };
+        return Ok((Jump::Bare { bare, end }, at));
+    }
+    if cursor.is_sign(Sign::Semicolon, at) {
+        let (end, at) = cursor.sign(Sign::Semicolon, at)?;
+        let bare = Bare::Return(word);
+        return Ok((Jump::Bare { bare, end }, at));
+    }
+    let (value, next) = value(cursor, alloc, depth, at)?;
+    let (end, next) = cursor.sign(Sign::Semicolon, next)?;
+    let at = word;
+    Ok((Jump::ReturnValue { at, value, end }, next))
+}
+
 /// A jump that is no block.
-#[tactic(auto, unfolding(crate::specs::Jumps::jump_at))]
+#[tactic(auto, unfolding(crate::specs::Jumps::jump_at, crate::specs::Jumps::return_from))]
 pub(crate) fn jump_of(
     cursor: &Cursor<'_>,
     alloc: Global,
@@ -45,57 +73,18 @@ pub(crate) fn jump_of(
     if cursor.is_word(Word::Break, at) {
         let (word, at) = cursor.word(Word::Break, at)?;
         let (end, at) = cursor.sign(Sign::Semicolon, at)?;
-        return Ok((
-            Jump::Bare {
-                bare: Bare::Break(word),
-                end,
-            },
-            at,
-        ));
+        let bare = Bare::Break(word);
+        return Ok((Jump::Bare { bare, end }, at));
     }
     if cursor.is_word(Word::Continue, at) {
         let (word, at) = cursor.word(Word::Continue, at)?;
         let (end, at) = cursor.sign(Sign::Semicolon, at)?;
-        return Ok((
-            Jump::Bare {
-                bare: Bare::Continue(word),
-                end,
-            },
-            at,
-        ));
+        let bare = Bare::Continue(word);
+        return Ok((Jump::Bare { bare, end }, at));
     }
     let (word, at) = cursor.word(Word::Return, at)?;
-    if cursor.is_word(Word::Null, at) {
-        let (null, at) = cursor.word(Word::Null, at)?;
-        let (end, at) = cursor.sign(Sign::Semicolon, at)?;
-        return Ok((
-            Jump::Bare {
-                bare: Bare::ReturnNull { at: word, null },
-                end,
-            },
-            at,
-        ));
-    }
-    if cursor.is_sign(Sign::Semicolon, at) {
-        let (end, at) = cursor.sign(Sign::Semicolon, at)?;
-        return Ok((
-            Jump::Bare {
-                bare: Bare::Return(word),
-                end,
-            },
-            at,
-        ));
-    }
-    let (value, at) = value(cursor, alloc, depth, at)?;
-    let (end, at) = cursor.sign(Sign::Semicolon, at)?;
-    Ok((
-        Jump::ReturnValue {
-            at: word,
-            value,
-            end,
-        },
-        at,
-    ))
+    let (jump, at) = return_of(cursor, alloc, depth, word, at)?;
+    Ok((jump, at))
 }
 
 /// `{ cfix_leave(1); break; }`
