@@ -1,20 +1,20 @@
 -- Conditions are read as the grammar's reader reads them.
-use Rattle.std.proofs.Common.{◌≡◌, ◌≢◌, ℕ, zero, suc, ◌-◌, Bool, true, false, List, [], ◌∷◌, Option, Some, None, cond, refl, sym, ap, subst, ◌∙◌, inl, inr, ◌⊎◌, arith}
+use Rattle.std.proofs.Common.{◌≡◌, ◌≢◌, ℕ, zero, suc, ◌-◌, Bool, true, false, List, [], ◌∷◌, Some, None, cond, refl, sym, ap, subst, ◌∙◌, inl, inr, ◌⊎◌, arith}
 use Rattle.cfix_base.specs.declared.Spot.{Spot}
 use Rattle.c_grammar.specs.declared.word.Word.TheVariants as w
 use Rattle.c_grammar.specs.declared.sign.Sign.{Sign}
 use Rattle.c_grammar.specs.declared.sign.Sign.TheVariants as s
-use Rattle.c_grammar.specs.Token.{Kind, IsName, IsNumber, IsQuoted, IsWord, IsOther, IsSign, Token, sign, Numeral}
+use Rattle.c_grammar.specs.Token.{Kind, IsSign, Token, sign, Numeral}
 use Rattle.c_grammar.specs.Reader.{Fault, Unexpected, Deep, Out, Got, Stop, next, one_of, one_at, seq, seq_dep, map_out, mapped, alt, either, begins, shut, maybe_read}
 use Rattle.c_grammar.specs.Read.{is_word, is_sign, is_sign_kind, is_name, is_number, read_sign, read_numeral}
 use Rattle.c_grammar.specs.ReadOp.{is_verb}
-use Rattle.c_grammar.specs.Expr.{Prefix, Expr, Number, Name, Index, Paren, Cast, Unary, Operation, Binary}
+use Rattle.c_grammar.specs.Expr.{Prefix, Expr, Paren, Binary}
 use Rattle.c_grammar.specs.Cond as g
-use Rattle.c_grammar.specs.ReadSimple.{is_paren, is_bracket, no_links}
-use Rattle.c_grammar.specs.ReadExpr.{is_prefix, is_binary, binary_of, operators, Link, group, links_with, CastParts, NameParts, Parenthesised, Operand, name_from, paren_from, operand_from, operand_with, inside_with, read_cast, unary_at, expr_at, prefix_at, index_at, paren_at}
+use Rattle.c_grammar.specs.ReadSimple.{is_paren}
+use Rattle.c_grammar.specs.ReadExpr.{is_prefix, is_binary, binary_of, operators, Link, group, links_with, NameParts, Parenthesised, Operand, name_from, paren_from, operand_from, operand_with, inside_with, read_cast, unary_at, expr_at, prefix_at, index_at, paren_at}
 use Rattle.c_grammar.specs.ReadCond.{read_guard, Guarded, guard_digit, SecondTail, second_from, second_tail_at, read_name_at, second_at, second_links_at, FirstLink, first_link_at, Tail, tail_from, tail_at, is_par, inner_at, HeadTail, head_tail_at, CondHead, cond_head_from, cond_head_at, cond_tail_at, guarded_at, or_tail_at, or_from, guard_operators, cond_at}
 use Rattle.c_grammar.specs.ReadCond as read
-use Rattle.c_stmt.specs.Conds.{guarded, plain_second, in_guarded, paren_second, ContinuedParts, continued_from, continued_at, behind_second, link_at, plain_inner, inner_from, inner_behind, paren_inner, plain_cond, cond_from, test_cond, both_guards, both_cond, cond_behind, paren_cond, or_guard}
+use Rattle.c_stmt.specs.Conds.{plain_second, paren_second, ContinuedParts, continued_from, continued_at, behind_second, link_at, plain_inner, inner_from, inner_behind, paren_inner, plain_cond, cond_from, test_cond, both_cond, cond_behind, paren_cond, or_guard}
 use Rattle.c_stmt.proofs.Outs.{map_map, map_same, next_same, next_map, next_next, either_same, seq_is, dep_is, alt_is}
 
 -- ---- parentheses

@@ -1,11 +1,11 @@
 -- A statement is read as the grammar's reader reads it, by the token with which it begins.
-use Rattle.std.proofs.Common.{◌≡◌, ℕ, zero, suc, ◌-◌, ◌<◌, ◌≤◌, ◌≢◌, Bool, true, false, List, refl, sym, ap, ◌∙◌, inl, inr, ◌⊎◌, arith}
+use Rattle.std.proofs.Common.{◌≡◌, ℕ, zero, suc, ◌-◌, ◌<◌, ◌≤◌, ◌≢◌, true, false, List, refl, sym, ap, ◌∙◌, inr, ◌⊎◌, arith}
 use Rattle.cfix_base.specs.declared.Spot.{Spot}
 use Rattle.c_grammar.specs.declared.word.Word.TheVariants as w
 use Rattle.c_grammar.specs.declared.sign.Sign.TheVariants as s
 use Rattle.c_grammar.specs.Token.{Token}
-use Rattle.c_grammar.specs.Reader.{Out, Got, Stop, Deep, seq, map_out, mapped, alt, either, begins, shut}
-use Rattle.c_grammar.specs.Read.{is_word, is_sign, read_word, read_sign}
+use Rattle.c_grammar.specs.Reader.{Out, Stop, Deep, seq, map_out, alt, either, begins, shut}
+use Rattle.c_grammar.specs.Read.{is_word, is_sign}
 use Rattle.c_grammar.specs.ReadOp.{read_ops}
 use Rattle.c_grammar.specs.ReadSimple.{simple_at}
 use Rattle.c_grammar.specs.Stmt.{Stmt, Nothing, Jumps}

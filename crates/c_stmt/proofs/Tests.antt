@@ -1,18 +1,16 @@
 -- The tests on what a token is are those of the grammar on the token.
-use Rattle.std.proofs.Common.{◌≡◌, Bool, ◌||◌, List, [], ◌∷◌, Option, Some, None, refl}
+use Rattle.std.proofs.Common.{◌≡◌, ◌||◌, List, [], ◌∷◌, Some, refl}
 use Rattle.cfix_base.specs.declared.Spot.{Spot}
-use Rattle.c_grammar.specs.declared.word.Word.{Word}
 use Rattle.c_grammar.specs.declared.word.Word.TheVariants as w
-use Rattle.c_grammar.specs.declared.sign.Sign.{Sign}
 use Rattle.c_grammar.specs.declared.sign.Sign.TheVariants as s
-use Rattle.c_grammar.specs.Token.{Kind, IsName, IsNumber, IsQuoted, IsWord, IsOther, IsSign, Token}
+use Rattle.c_grammar.specs.Token.{Kind, IsName, IsWord, IsSign, Token}
 use Rattle.c_grammar.specs.Reader.{begins}
 use Rattle.c_grammar.specs.Read.{is_word_kind, is_name_kind}
 use Rattle.c_grammar.specs.ReadExpr.{is_some}
 use Rattle.c_grammar.specs.ReadSimple.{step_in}
 use Rattle.c_grammar.specs.ReadStmt.{begins_plain, begins_first, begins_item, begins_item_kind, begins_decl, begins_jump}
 use Rattle.c_cursor.specs.Seen.{look_of, look_at}
-use Rattle.c_stmt.specs.Tests.{look_plain, look_first, word_item, sign_item, look_item, look_decl, look_jump}
+use Rattle.c_stmt.specs.Tests.{look_plain, look_first, look_item, look_decl, look_jump}
 
 plain_kind : (k : Kind) (at : Spot) → look_plain (Some (look_of k)) ≡ is_name_kind k || is_some (step_in k at)
 plain_kind (IsName x) at = refl

@@ -1,22 +1,20 @@
 -- The readers of conditions in the order in which the code reads. In each reader d is how many more constructs may be
 -- nested.
-use Rattle.std.specs.Prelude.{◌≡◌, ◌≢◌, ℕ, ◌-◌, Bool, true, false, List, [], ◌∷◌, Option, Some, None, ◌⊎◌}
+use Rattle.std.specs.Prelude.{◌≡◌, ◌≢◌, ℕ, ◌-◌, Bool, true, false, List, Option, Some, ◌⊎◌}
 use Rattle.std.proofs.Common.{inl, inr}
 use Rattle.cfix_base.specs.declared.Spot.{Spot}
 use Rattle.c_grammar.specs.declared.word.Word.TheVariants as w
 use Rattle.c_grammar.specs.declared.sign.Sign.TheVariants as s
 use Rattle.c_grammar.specs.Token.{Token}
-use Rattle.c_grammar.specs.Reader.{Out, Got, next, one_of, seq, seq_dep, map_out, mapped, begins, either, many}
-use Rattle.c_grammar.specs.Read.{is_word, is_sign, read_sign}
+use Rattle.c_grammar.specs.Reader.{Out, Got, next, seq, map_out, mapped, begins, either}
+use Rattle.c_grammar.specs.Read.{is_word, read_sign}
 use Rattle.c_grammar.specs.ReadOp.{is_verb, read_op}
 use Rattle.c_grammar.specs.Expr as e
 use Rattle.c_grammar.specs.Op as o
 use Rattle.c_grammar.specs.Cond as g
-use Rattle.c_grammar.specs.ReadExpr.{binary_of, operators, Link, group, links_with, unary_at, expr_at}
-use Rattle.c_grammar.specs.ReadCond.{is_number_of, read_guard, Guarded, guard_digit, second_at, second_links_at, FirstLink, first_link_at, Tail, tail_from, tail_at, is_par, inner_at, or_tail_at, guard_operators, guard_cond}
+use Rattle.c_grammar.specs.ReadExpr.{operators, Link, group, links_with, unary_at, expr_at}
+use Rattle.c_grammar.specs.ReadCond.{is_number_of, read_guard, Guarded, guard_digit, second_at, Tail, tail_at, inner_at, or_tail_at, guard_operators, guard_cond}
 use Rattle.c_raw.specs.declared.op.Op.{Op}
-use Rattle.c_raw.specs.declared.expr.Expr.{Expr}
-use Rattle.c_raw.specs.declared.expr.Expr.TheVariants as expr
 use Rattle.c_raw.specs.Ops.{op_view}
 use Rattle.c_raw.specs.Exprs.{expr_view, binary_view}
 use Rattle.c_raw.specs.Conds.{guard_view, true_guard_view}

@@ -1,6 +1,6 @@
 -- The readers of statements in the order in which the code reads: what stands behind a token that was read takes the
 -- place of that token. In each reader d is how many more constructs may be nested.
-use Rattle.std.specs.Prelude.{ℕ, zero, suc, List}
+use Rattle.std.specs.Prelude.{ℕ, List}
 use Rattle.cfix_base.specs.declared.Spot.{Spot}
 use Rattle.c_grammar.specs.declared.word.Word.TheVariants as w
 use Rattle.c_grammar.specs.declared.sign.Sign.TheVariants as s
@@ -11,7 +11,7 @@ use Rattle.c_grammar.specs.ReadOp.{is_verb, read_ops}
 use Rattle.c_grammar.specs.ReadSimple.{simple_at}
 use Rattle.c_grammar.specs.Decl.{Ints}
 use Rattle.c_grammar.specs.Stmt.{Stmt, Block, Nothing, Simply, Jumps, NoItems, AndItem, Items, Item, Declares}
-use Rattle.c_grammar.specs.ReadStmt.{is_semicolon, read_semicolon, begins_jump, item_with, items_with, IntsBlockParts, OtherItem, other_item_from, other_item_with, ints_block_with, if_from, if_with, while_from, while_with, for_from, for_with, SimplyParts, stmt_at}
+use Rattle.c_grammar.specs.ReadStmt.{is_semicolon, read_semicolon, begins_jump, item_with, items_with, IntsBlockParts, other_item_from, other_item_with, ints_block_with, if_from, if_with, while_from, while_with, for_from, for_with, SimplyParts, stmt_at}
 use Rattle.c_stmt.specs.Jumps.{jump_at, bare_block_from, value_block_from}
 
 unfoldable pub item_at : (d : ℕ) → List Token → Out Token Item

@@ -1,5 +1,5 @@
 -- What a part begins with, told by what a token is without the bytes that it carries.
-use Rattle.std.specs.Prelude.{Bool, true, false, Option, Some, None}
+use Rattle.std.specs.Prelude.{Bool, true, false, Option, Some}
 use Rattle.c_grammar.specs.declared.word.Word.{Word}
 use Rattle.c_grammar.specs.declared.word.Word.TheVariants as w
 use Rattle.c_grammar.specs.declared.sign.Sign.{Sign}

@@ -1,6 +1,4 @@
-use Rattle.std.proofs.Common.{◌≡◌, Some, None, refl, ap, ◌∙◌}
-use Rattle.c_grammar.specs.Stmt.{NoElse}
-use Rattle.c_raw.specs.Stmts.{stmt_view, if_view}
+use Rattle.std.proofs.Common.{None, refl}
 use Rattle.c_raw.proofs.Equations.{stmt-If}
 use Rattle.c_stmt.proofs.choice.choice.Goals as goal
 

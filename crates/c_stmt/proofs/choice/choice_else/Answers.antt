@@ -1,5 +1,4 @@
-use Rattle.std.proofs.Common.{◌≡◌, Some, None, refl, ap, ◌∙◌}
-use Rattle.c_raw.specs.Stmts.{stmt_view, if_view}
+use Rattle.std.proofs.Common.{refl}
 use Rattle.c_raw.proofs.Equations.{stmt-If, else-is}
 use Rattle.c_stmt.proofs.choice.choice_else.Goals as goal
 

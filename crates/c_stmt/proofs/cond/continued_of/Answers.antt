@@ -1,6 +1,4 @@
-use Rattle.std.proofs.Common.{◌≡◌, Bool, true, false, drop, inl, inr, rules}
-use Rattle.c_grammar.specs.Reader.{begins}
-use Rattle.c_grammar.specs.ReadSimple.{is_paren}
+use Rattle.std.proofs.Common.{drop}
 use Rattle.c_raw.specs.Exprs.{expr_view}
 use Rattle.c_stmt.proofs.Conds.{continued_end, continued_deep, continued_link}
 use Rattle.c_stmt.proofs.cond.continued_of.Goals as goal

@@ -1,12 +1,10 @@
-use Rattle.std.proofs.Common.{◌≡◌, ◌<◌, Bool, true, false, drop, map, sym, ◌∙◌, arith, rules}
-use Rattle.std.proofs.lemmas.Result.{err_from_is_err_and}
+use Rattle.std.proofs.Common.{◌≡◌, ◌<◌, true, false, drop, map, arith, rules}
 use Rattle.std.proofs.lemmas.List.{map_push}
 use Rattle.c_grammar.specs.Reader.{begins, size}
 use Rattle.c_grammar.specs.declared.sign.Sign.TheVariants as s
 use Rattle.c_grammar.specs.Read.{is_sign}
 use Rattle.c_stmt.specs.Decls.{next_loop_int_view, next_loop_int}
 use Rattle.c_stmt.proofs.Loop as loop
-use Rattle.c_stmt.proofs.Stop.{stops_by}
 use Rattle.c_stmt.proofs.decl.more_loop_ints_of.Goals as goal
 
 pub returns-then-not-is_sign : goal.returns-then-not-is_sign
