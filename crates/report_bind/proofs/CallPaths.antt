@@ -1,6 +1,5 @@
 -- Paths of calls, and the longest common front of two.
-use Rattle.std.proofs.Common.{◌≡◌, ◌≢◌, ℕ, zero, suc, ◌+◌, ◌<◌, ◌≤◌, Bool, true, false, ◌&&◌, ◌==◌, List, [], ◌∷◌, length, take, drop, slice_get, Option, Some, None, if◌then◌else◌, inl, inr, refl, ap, sym, subst, ◌∙◌, arith}
-use Rattle.std.specs.Prelude.{All, filter}
+use Rattle.std.proofs.Common.{◌≡◌, ℕ, zero, suc, ◌≤◌, Bool, true, false, ◌&&◌, List, [], ◌∷◌, length, take, drop, Option, Some, None, if◌then◌else◌, inl, inr, refl, ap, sym, subst, ◌∙◌, arith}
 use Rattle.std.proofs.lemmas.Bool.{false≢true}
 use Rattle.std.proofs.lemmas.Bool.Decides.{eqb_tells}
 use Rattle.std.proofs.lemmas.Option.{none-some}
@@ -9,7 +8,7 @@ use Rattle.std.specs.List.{Contains}
 use Rattle.cfix_base.specs.declared.access.AccessId.{AccessId}
 use Rattle.cfix_base.specs.declared.number.FnId.{FnId}
 use Rattle.cfix_base.specs.declared.number.NodeId.{NodeId}
-use Rattle.c_prog.specs.Lines.{SourceTree, tree_calls, call_line, same_node}
+use Rattle.c_prog.specs.Lines.{SourceTree, tree_calls, call_line}
 use Rattle.call_graph.specs.Calls.{function_of, callee_of}
 use Rattle.call_graph.specs.declared.site.Site.{Site}
 use Rattle.report_bind.specs.Fits.{IsCallPath, AreApart}

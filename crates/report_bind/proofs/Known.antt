@@ -1,54 +1,20 @@
 -- Which lines are known, and which nodes exist.
-use Rattle.std.proofs.Common.{◌≡◌, ◌≢◌, ℕ, zero, suc, ◌+◌, ◌-◌, ◌<◌, ◌≤◌, Bool, true, false, List, [], ◌∷◌, ◌++◌, map, length, slice_get, Option, Some, None, if◌then◌else◌, refl, ap, sym, subst, ◌∙◌, arith}
-use Rattle.std.specs.Prelude.{All, IsSome}
-use Rattle.std.proofs.lemmas.List.Elements.{All-cons, All-head, All-tail, All-weaker, All-append}
-use Rattle.cfix_base.specs.declared.access.AccessId.{AccessId}
+use Rattle.std.proofs.Common.{◌≡◌, ℕ, suc, ◌+◌, ◌<◌, ◌≤◌, List, [], ◌∷◌, length, slice_get, Option, Some, None, refl, ap, ◌∙◌, arith}
+use Rattle.std.specs.Prelude.{All}
+use Rattle.std.proofs.lemmas.List.Elements.{All-cons, All-weaker, All-append}
 use Rattle.cfix_base.specs.declared.number.FnId.{FnId}
 use Rattle.cfix_base.specs.declared.number.NodeId.{NodeId}
 use Rattle.c_prog.specs.declared.access_item.AccessItem.{AccessItem}
 use Rattle.c_prog.specs.declared.access_item.Touch.{Touch}
 use Rattle.c_prog.specs.declared.tree.Tree.{Tree}
-use Rattle.c_prog.specs.Accesses.{accesses, numbered, numbered_one, touches, touches_of}
+use Rattle.c_prog.specs.Accesses.{numbered, numbered_one, touches, touches_of}
 use Rattle.c_prog.specs.Calls.{callee}
-use Rattle.c_prog.specs.Lines.{SourceTree, IsLined, same_access, same_node, access_line, call_line, accesses_from, tree_accesses, if_call, calls_from, tree_calls}
-use Rattle.c_prog.specs.Order.{Node, tree_order, node_at}
-use Rattle.c_prog.specs.Rising.{keys, line_in}
-use Rattle.c_prog.proofs.Gets.{get-after}
-use Rattle.c_prog.proofs.KeyOrders.{access-order, node-order}
+use Rattle.c_prog.specs.Lines.{accesses_from, tree_accesses, if_call, calls_from, tree_calls}
+use Rattle.c_prog.specs.Order.{Node, tree_order}
 use Rattle.report_bind.specs.Places.{item_at}
 
 nothing : {X : Type 0} (P : X → Type 0) → All P []
 nothing P = λ k d below. absurd (omega (arith, below))
-
-some-either : (b : Bool) (n : ℕ) (rest : Option ℕ) → IsSome rest → IsSome (if b then Some n else rest)
-some-either true n rest is = refl
-some-either false n rest is = is
-
--- each key of entries has a line there
-known : {K : Type 0} (same : K → K → Bool) → ((k : K) → same k k ≡ true) → (entries : List (K × ℕ))
-    → All (λ k. IsSome (line_in same k entries)) (keys entries)
-known same itself [] = nothing (λ k. IsSome (line_in same k []))
-known same itself (e ∷ rest) =
-    All-cons (λ k. IsSome (line_in same k (e ∷ rest))) e.0 (keys rest)
-    (subst (λ b. IsSome (if b then Some e.1 else line_in same e.0 rest)) (sym (itself e.0)) refl)
-    (All-weaker (λ k. IsSome (line_in same k rest)) (λ k. IsSome (line_in same k (e ∷ rest)))
-    (λ k is. some-either (same e.0 k) e.1 (line_in same k rest) is) (keys rest) (known same itself rest))
-
-unmapped : {X Y : Type 0} (P : Y → Type 0) (f : X → Y) (xs : List X) → All P (map f xs) → All (λ x. P (f x)) xs
-unmapped P f [] all = nothing (λ x. P (f x))
-unmapped P f (x ∷ xs) all =
-    All-cons (λ y. P (f y)) x xs (All-head P (f x) (map f xs) all) (unmapped P f xs (All-tail P (f x) (map f xs) all))
-
--- the accesses of a source have lines
-pub accesses-known : (source : SourceTree) → IsLined source.tree source.lines
-    → All (λ item. IsSome (access_line source.lines item.id)) (tree_accesses source.tree)
-accesses-known source lined =
-    unmapped (λ id. IsSome (access_line source.lines id)) (λ item. item.id) (tree_accesses source.tree)
-    (subst (All (λ id. IsSome (access_line source.lines id))) lined.accesses (known same_access access-order.itself source.lines.accesses))
-
--- and so have its calls
-pub calls-known : (source : SourceTree) → All (λ node. IsSome (call_line source.lines node)) (keys source.lines.calls)
-calls-known source = known same_node node-order.itself source.lines.calls
 
 one-call : (P : NodeId → Type 0) (node : NodeId) (function : Option FnId) → P node → All P (if_call node function)
 one-call P node None is = nothing P

@@ -1,23 +1,21 @@
 -- The rules have one answer for each report, and what is bound fits the program.
-use Rattle.std.proofs.Common.{◌≡◌, ◌≢◌, ◌⊎◌, ℕ, Bool, true, false, ◌==◌, List, [], ◌∷◌, drop, take, IsTrue, Option, Some, None, Result, Ok, Err, IfOk, inl, inr, refl, ap, sym, subst, ◌∙◌, arith}
+use Rattle.std.proofs.Common.{◌≡◌, ◌⊎◌, ℕ, Bool, true, false, ◌==◌, List, Option, Some, None, Ok, Err, IfOk, inl, inr, refl, ap, sym, subst, ◌∙◌}
 use Rattle.std.specs.Option.{is_some}
 use Rattle.std.proofs.lemmas.Bool.{false≢true}
 use Rattle.std.proofs.lemmas.Bool.Decides.{eqb_tells, Decides-eqb}
-use Rattle.cfix_base.specs.declared.access.AccessId.{AccessId}
 use Rattle.cfix_base.specs.declared.number.FnId.{FnId}
 use Rattle.c_prog.specs.declared.access_item.AccessItem.{AccessItem}
 use Rattle.c_prog.specs.declared.tree.Tree.{Tree}
 use Rattle.c_prog.specs.Lines.{SourceTree}
 use Rattle.flow_graph.specs.Flow.{Edge, Graph, edges_of, graph_of}
-use Rattle.flow_graph.specs.Paths.{OnPath}
 use Rattle.flow_graph.specs.Regions.{InRegion}
 use Rattle.plan_types.specs.Sets.{is_in, IsIn}
 use Rattle.plan_types.specs.declared.bound.Atom.{Atom}
 use Rattle.plan_types.specs.declared.bound.Bound.{Bound}
 use Rattle.plan_types.specs.declared.bound.Bound.TheVariants as bound
 use Rattle.regions.specs.Region.{IsRegion}
-use Rattle.report_bind.specs.Binds.{Answer, is_stacked, ByRegion, ByRoot, ByOutermost, ByStacks, BySites, IsAnswer, Binds, Refuses}
-use Rattle.report_bind.specs.Fits.{IsAccess, FitsAtom, Fits}
+use Rattle.report_bind.specs.Binds.{Answer, is_stacked, ByRegion, ByRoot, ByOutermost, ByStacks, BySites, IsAnswer, Binds}
+use Rattle.report_bind.specs.Fits.{IsAccess, Fits}
 use Rattle.report_bind.specs.Found.{AreFound, AreTraced}
 use Rattle.report_bind.specs.Places.{item_at, atom_of, HasRegion}
 use Rattle.report_bind.specs.Sites.{site_of}

@@ -1,8 +1,7 @@
 -- The small source of the tests is a source.
-use Rattle.std.proofs.Common.{◌≡◌, ◌<◌, ◌-◌, ◌^◌, true, map, refl, subst, sym, ap, ◌∙◌, arith}
-use Rattle.c_prog.specs.Lines.{IsLined, tree_accesses, tree_calls, accesses_from, calls_from}
+use Rattle.std.proofs.Common.{◌≡◌, ◌<◌, ◌-◌, ◌^◌, true, refl, subst, sym, arith}
+use Rattle.c_prog.specs.Lines.{IsLined}
 use Rattle.c_prog.specs.Nodes.{tree_nodes}
-use Rattle.c_prog.specs.Order.{tree_order}
 use Rattle.c_prog.specs.Straight.{is_straight}
 use Rattle.c_prog.specs.Valid.{IsValid}
 use Rattle.c_prog.proofs.Equations.{nodes-Simple, order-Simple}

@@ -1,9 +1,8 @@
 -- What is known of accesses and calls that are found.
-use Rattle.std.proofs.Common.{◌≡◌, ◌⊎◌, ℕ, zero, suc, ◌+◌, ◌<◌, ◌≤◌, Bool, true, false, ◌&&◌, List, [], ◌∷◌, ◌++◌, map, length, take, drop, get_or, slice_get, Option, Some, None, inl, inr, refl, ap, sym, subst, ◌∙◌, arith}
+use Rattle.std.proofs.Common.{◌≡◌, ℕ, zero, suc, ◌+◌, ◌<◌, ◌≤◌, Bool, ◌&&◌, List, [], ◌∷◌, map, length, take, drop, get_or, slice_get, Some, refl, ap, sym, subst, ◌∙◌, arith}
 use Rattle.std.specs.Prelude.{All}
 use Rattle.std.specs.List.{range_with_len}
 use Rattle.std.proofs.lemmas.Option.{none-some}
-use Rattle.std.proofs.lemmas.List.{length-append, length-map}
 use Rattle.std.proofs.lemmas.List.Elements.{All-head, All-tail, All-append, All-map}
 use Rattle.std.proofs.lemmas.List.FromFn.{length-map-range_with_len}
 use Rattle.cfix_base.specs.declared.access.Access.TheVariants.{Read, Write}
@@ -12,21 +11,20 @@ use Rattle.cfix_base.specs.declared.number.NodeId.{NodeId}
 use Rattle.c_prog.specs.declared.access_item.AccessItem.{AccessItem}
 use Rattle.c_prog.specs.declared.function.Function.{Function}
 use Rattle.c_prog.specs.declared.tree.Tree.{Tree}
-use Rattle.c_prog.specs.Lines.{SourceTree, IsLined, tree_accesses, tree_calls, same_node}
-use Rattle.c_prog.specs.Nodes.{tree_nodes}
-use Rattle.c_prog.specs.Order.{Node, function_order, tree_order}
+use Rattle.c_prog.specs.Lines.{SourceTree, IsLined, tree_accesses, same_node}
+use Rattle.c_prog.specs.Order.{function_order, tree_order}
 use Rattle.c_prog.specs.Rising.{keys}
 use Rattle.c_prog.proofs.NodeLaws.{tree_order-length}
 use Rattle.call_graph.specs.Calls.{site_function, function_of}
-use Rattle.call_graph.specs.Sites.{CallGraph, calls_of, site, sites_from}
+use Rattle.call_graph.specs.Sites.{calls_of, site, sites_from}
 use Rattle.call_graph.specs.declared.site.Site as call_module
-use Rattle.call_graph.proofs.SiteLaws.{sites-length, mains-length}
+use Rattle.call_graph.proofs.SiteLaws.{sites-length}
 use Rattle.flow_graph.specs.Flow.{Graph, graph_of, graphs_of}
 use Rattle.plan_types.specs.declared.bound.Atom.{Atom}
 use Rattle.report_bind.specs.Fits.{IsCallPath}
-use Rattle.report_bind.specs.Found.{AreFound, AreTraced}
+use Rattle.report_bind.specs.Found.{AreTraced}
 use Rattle.report_bind.specs.Places.{common, entered, start_of, item_at, is_kind, comes_before, in_one_visit, before_by, visit_by, atom_of}
-use Rattle.report_bind.specs.Sites.{same_kind, is_meant, site_of}
+use Rattle.report_bind.specs.Sites.{is_meant, site_of}
 use Rattle.report_bind.specs.Stacks.{nodes_of}
 use Rattle.report_bind.specs.declared.found.Found.{Found}
 use Rattle.report_bind.specs.declared.found.Sites.{Sites}

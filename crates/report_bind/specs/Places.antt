@@ -1,5 +1,5 @@
 -- Where a bound atomicity report lies: the region's function, np and nc, the call paths, and the mode.
-use Rattle.std.specs.Prelude.{ℕ, zero, suc, ◌≡◌, Bool, true, false, ◌&&◌, ◌==◌, nat_lt, List, [], ◌∷◌, take, drop, slice_get, Option, Some, None, if◌then◌else◌}
+use Rattle.std.specs.Prelude.{ℕ, suc, Bool, false, ◌&&◌, nat_lt, List, [], ◌∷◌, take, drop, slice_get, Option, Some, None, if◌then◌else◌}
 use Rattle.cfix_base.specs.declared.access.Access.{Access}
 use Rattle.cfix_base.specs.declared.access.Access.TheVariants.{Read, Write}
 use Rattle.cfix_base.specs.declared.access.AccessId.{AccessId}
@@ -17,7 +17,6 @@ use Rattle.flow_graph.specs.Regions.{InRegion}
 use Rattle.plan_types.specs.declared.bound.Atom.{Atom}
 use Rattle.report_bind.specs.Sites.{same_kind}
 use Rattle.report_bind.specs.declared.found.Sites.{Sites}
-use Rattle.report_bind.specs.declared.found.Stack.{Stack}
 
 -- how many call nodes two stacks have in common at their front
 abbrev pub common : List NodeId → List NodeId → ℕ

@@ -9,7 +9,7 @@ use Rattle.c_prog.specs.declared.global.GlobalKind.TheVariants as global
 use Rattle.c_prog.specs.declared.stmt.Stmt.{Stmt}
 use Rattle.c_prog.specs.declared.stmt.Stmt.TheVariants as stmt
 use Rattle.c_prog.specs.declared.tree.Tree.{Tree}
-use Rattle.c_prog.specs.Lines.{LineTable, SourceTree}
+use Rattle.c_prog.specs.Lines.{LineTable}
 
 abbrev pub counter_globals : List Global
 counter_globals = record { name = codes "count"; kind = global.Int (pos 0) } ∷ []

@@ -39,8 +39,3 @@ is_meant source site item = is_line (access_line source.lines item.id) site.line
 -- the access that a site means: of those, by node and then in evaluation order, the one at its place, from 0
 abbrev pub site_of : SourceTree → Site → Option AccessItem
 site_of source site = slice_get (filter (is_meant source site) (tree_accesses source.tree)) site.nth
-
--- an item, if it is kept
-abbrev pub kept_if : Bool → AccessItem → Option AccessItem
-kept_if true item = Some item
-kept_if false item = None

@@ -16,7 +16,7 @@ use crate::found::{Found, Sites};
 use crate::placing::place;
 use crate::sites::find_site;
 use crate::stacks::find_stack;
-use c_prog::Source;
+use c_prog::{Source, tree_accesses};
 use plan_types::{Atom, Bound};
 use regions::region;
 use report_json::{Report, Site};
@@ -115,13 +115,15 @@ fn bind_sites(
     requires { graphs.now ≡ graphs_in source.now.tree }
     ensures { (result ≡ Err BindFault.NoMemory) ⊎ BySites source.now p.now c.now (site_of source.now p.now) (site_of source.now c.now) (site_of source.now r.now) result }
 {
-    let Some(p_item) = find_site(alloc, source, p)? else {
+    let items = tree_accesses(alloc, source.program())?;
+    let items = items.as_slice();
+    let Some(p_item) = find_site(source, p, items) else {
         return Err(BindFault::NoSite(Role::P));
     };
-    let Some(c_item) = find_site(alloc, source, c)? else {
+    let Some(c_item) = find_site(source, c, items) else {
         return Err(BindFault::NoSite(Role::C));
     };
-    let Some(r_item) = find_site(alloc, source, r)? else {
+    let Some(r_item) = find_site(source, r, items) else {
         return Err(BindFault::NoSite(Role::R));
     };
     let sites = Sites {
@@ -152,8 +154,8 @@ fn answer(
 /// not keep. The sites of p, c and r are accesses of the program (else `NoSite`); the stack of p, and
 /// that of c, are calls of it, and both begin in one function (else `StackBroken`); where one of them
 /// has a call, threads begin in that function (else `NotRoot`); and the region is not empty (else
-/// `NoPath`). A site costs one pass over the lines of the accesses, and a walk of the program for each
-/// access on its line.
+/// `NoPath`). One walk of the program lists its accesses, and each site costs one pass over them and
+/// their lines.
 pub fn bind(
     alloc: Global,
     source: &Source,

@@ -1,13 +1,10 @@
-ghost use Rattle.std.specs.Prelude.{◌≡◌, Some, IsSome, IfOk};
-ghost use Rattle.c_prog.specs.Lines.{access_line};
-ghost use Rattle.c_prog.specs.declared.access_item.AccessItem.{AccessItem};
-ghost use Rattle.report_bind.specs.Places.{item_at};
-ghost use Rattle.report_bind.specs.Sites.{variable_name, same_kind, is_of, is_meant, kept_if, site_of};
+ghost use Rattle.std.specs.Prelude.{◌≡◌, ◌&&◌, Some};
+ghost use Rattle.c_prog.specs.Lines.{tree_accesses};
+ghost use Rattle.report_bind.specs.Sites.{variable_name, same_kind, is_line, is_of, site_of};
 
-use c_prog::{AccessItem, Program, Source, accesses};
-use cfix_base::{Access, AccessId, NoMemory, VarId};
+use c_prog::{AccessItem, Program, Source};
+use cfix_base::{Access, VarId};
 use report_json::Site;
-use std::alloc::Global;
 
 fn variable_name(program: &Program, var: VarId) -> &[u8]
     ensures { result.now ≡ variable_name program.now var }
@@ -42,54 +39,27 @@ fn is_of(program: &Program, site: &Site, item: AccessItem) -> bool
     same_kind(item.access, site.access) && name == site.var.as_slice()
 }
 
-fn item_of(alloc: Global, program: &Program, id: AccessId) -> Result<AccessItem, NoMemory>
-    requires { IsSome (item_at program.now id) }
-    ensures { IfOk result (λ item. item_at program.now id ≡ Some item) }
+// Whether a site means an access that stands on this line.
+fn is_meant_on(program: &Program, site: &Site, item: AccessItem, line: u32) -> bool
+    ensures { result ≡ (is_line (Some line) site.now.line && is_of program.now site.now item) }
 {
-    let items = accesses(alloc, program, id.node)?;
-    Ok(*items.at(id.index as usize))
+    line == site.line && is_of(program, site, item)
 }
 
-// The access, if a site may mean it. Its line is looked at first, since that needs no walk.
-fn meant_at(
-    alloc: Global,
-    source: &Source,
-    site: &Site,
-    id: AccessId,
-) -> Result<Option<AccessItem>, NoMemory>
-    requires exists { IsSome (item_at source.now.tree id) }
-    requires lined { IsSome (access_line source.now.lines id) }
-    ensures { (item : AccessItem) → item_at source.now.tree id ≡ Some item → item.id ≡ id → IfOk result (λ found. found ≡ kept_if (is_meant source.now site.now item) item) }
+/// The access that a site means, of all accesses of the program: one pass over them and their lines.
+pub fn find_site(source: &Source, site: &Site, items: &[AccessItem]) -> Option<AccessItem>
+    requires all { items.now ≡ tree_accesses source.now.tree }
+    ensures { result ≡ site_of source.now site.now }
 {
-    if source.lines().access(id) != site.line {
-        return Ok(None);
-    }
-    let item = item_of(alloc, source.program(), id)?;
-    if is_of(source.program(), site, item) {
-        Ok(Some(item))
-    } else {
-        Ok(None)
-    }
-}
-
-/// The access that a site means.
-pub fn find_site(
-    alloc: Global,
-    source: &Source,
-    site: &Site,
-) -> Result<Option<AccessItem>, NoMemory>
-    ensures { IfOk result (λ found. found ≡ site_of source.now site.now) }
-{
-    let lines = source.lines();
-    let entries = lines.accesses();
+    let entries = source.lines().accesses();
     let mut left = site.nth;
-    for entry in entries {
-        if let Some(item) = meant_at(alloc, source, site, entry.0)? {
+    for (place, item) in items.iter().enumerate() {
+        if is_meant_on(source.program(), site, *item, entries[place].1) {
             if left == 0 {
-                return Ok(Some(item));
+                return Some(*item);
             }
             left -= 1;
         }
     }
-    Ok(None)
+    None
 }

@@ -1,4 +1,4 @@
-ghost use Rattle.std.specs.Prelude.{◌≡◌, ◌<◌, ◌^◌, Some, All, IsSome, IfOk, filter, length, slice_get};
+ghost use Rattle.std.specs.Prelude.{◌≡◌, ◌<◌, ◌^◌, Some, IfOk, filter, length, slice_get};
 ghost use Rattle.c_prog.specs.Lines.{call_line, tree_calls};
 ghost use Rattle.call_graph.specs.Calls.{function_of};
 ghost use Rattle.call_graph.specs.Sites.{calls_of};
@@ -40,17 +40,25 @@ fn is_function(found: Option<FnId>, function: FnId) -> bool
     }
 }
 
-// Whether a node of one function calls another on a line.
-fn is_call(source: &Source, calls: &Calls, between: (FnId, FnId), line: u32, node: NodeId) -> bool
+// Whether a node of one function, whose called name stands on the line of `entry`, calls another on
+// `line`.
+fn is_call(
+    source: &Source,
+    calls: &Calls,
+    between: (FnId, FnId),
+    line: u32,
+    entry: (NodeId, u32),
+) -> bool
     requires own { calls.now ≡ calls_of source.now.tree }
-    requires exists { node.number < length calls.now.sites }
-    requires lined { IsSome (call_line source.now.lines node) }
-    ensures { result ≡ is_call source.now between.0 between.1 line node }
+    requires exists { entry.0.number < length calls.now.sites }
+    requires lined { call_line source.now.lines entry.0 ≡ Some entry.1 }
+    ensures { result ≡ is_call source.now between.0 between.1 line entry.0 }
 {
     let (outer, inner) = between;
+    let (node, own_line) = entry;
     let function = calls.function_of(node);
     let callee = calls.callee(node);
-    let on_line = source.lines().call(node) == line;
+    let on_line = own_line == line;
     function.number == outer.number && (is_function(callee, inner) && on_line)
 }
 
@@ -66,7 +74,7 @@ fn find_call(
     let entries = source.lines().calls();
     let mut left = call.nth;
     for entry in entries {
-        if is_call(source, calls, between, call.line, entry.0) {
+        if is_call(source, calls, between, call.line, *entry) {
             if left == 0 {
                 return Some(entry.0);
             }

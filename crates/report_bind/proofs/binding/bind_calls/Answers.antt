@@ -1,4 +1,4 @@
-use Rattle.std.proofs.Common.{◌≡◌, ◌<◌, length, sym, subst, ap, ◌∙◌, arith}
+use Rattle.std.proofs.Common.{length, ap, arith}
 use Rattle.call_graph.proofs.SiteLaws.{mains-length}
 use Rattle.report_bind.specs.Places.{start_of}
 use Rattle.report_bind.specs.Stacks.{nodes_of}

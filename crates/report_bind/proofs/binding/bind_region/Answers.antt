@@ -1,6 +1,5 @@
-use Rattle.std.proofs.Common.{◌≡◌, ◌<◌, length, inl, inr, refl, sym, subst, ap, ◌∙◌, slice_get, Some, arith}
+use Rattle.std.proofs.Common.{length, inl, inr, refl, sym, ap, ◌∙◌, slice_get, arith}
 use Rattle.call_graph.proofs.SiteLaws.{sites-length}
-use Rattle.flow_graph.specs.Flow.{graph_of}
 use Rattle.report_bind.proofs.Traced.{flow-at}
 use Rattle.report_bind.proofs.Rules.{has-region, no-region}
 use Rattle.report_bind.proofs.binding.bind_region.Goals as goal

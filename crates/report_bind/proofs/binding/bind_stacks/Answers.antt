@@ -1,4 +1,4 @@
-use Rattle.std.proofs.Common.{◌≡◌, ◌<◌, length, sym, subst, ap, ◌∙◌, Some, arith}
+use Rattle.std.proofs.Common.{◌≡◌, length, sym, ap, ◌∙◌, Some, arith}
 use Rattle.report_bind.specs.Binds.{is_stacked}
 use Rattle.report_bind.specs.Stacks.{stack_of}
 use Rattle.report_bind.proofs.Traced.{site-exists}

@@ -1,4 +1,4 @@
-use Rattle.std.proofs.Common.{◌≡◌, ◌<◌, ◌≤◌, length, drop, sym, ap, ◌∙◌, arith}
+use Rattle.std.proofs.Common.{◌≡◌, length, drop, sym, ap, ◌∙◌, arith}
 use Rattle.call_graph.specs.Calls.{function_of}
 use Rattle.report_bind.specs.Places.{common, start_of, visit_by}
 use Rattle.report_bind.specs.Stacks.{nodes_of}

@@ -1,10 +1,10 @@
 use Rattle.std.proofs.Common.{◌≡◌, ◌<◌, length, sym, subst, ap, ◌∙◌}
-use Rattle.std.specs.Prelude.{All, IsSome}
+use Rattle.std.specs.Prelude.{All}
 use Rattle.cfix_base.specs.declared.number.NodeId.{NodeId}
-use Rattle.c_prog.specs.Lines.{call_line}
+use Rattle.c_prog.specs.Lines.{InOrder}
 use Rattle.c_prog.specs.Rising.{keys}
-use Rattle.report_bind.proofs.Known.{calls-known}
 use Rattle.report_bind.proofs.Traced.{call-exists, key-is}
+use Rattle.report_bind.proofs.Turns.{call-line-at}
 use Rattle.report_bind.proofs.stacks.find_call.Goals as goal
 
 pub is_call-requires-clause-exists : goal.is_call-requires-clause-exists
@@ -17,7 +17,6 @@ is_call-requires-clause-exists c =
 
 pub is_call-requires-clause-lined : goal.is_call-requires-clause-lined
 is_call-requires-clause-lined c =
-    let entries : c.calls-entries.result.now ≡ c.args.source.now.lines.calls = c.calls-entries.ensures.same ∙ ap (λ l. l.calls) c.lines.ensures.same in
-    key-is (λ node. IsSome (call_line c.args.source.now.lines node)) c.calls-entries.result.now c.loop-entry.entry-index (record { number = 0 }, 0)
-    (subst (λ es. All (λ (node : NodeId). IsSome (call_line c.args.source.now.lines node)) (keys es)) (sym entries) (calls-known c.args.source.now))
-    c.loop-entry-test.true
+    call-line-at c.args.source.now c.calls-entries.result.now c.loop-entry.entry-index (record { number = 0 }, 0)
+    (subst InOrder c.lines.ensures.same c.calls-entries.ensures.rising)
+    (c.calls-entries.ensures.same ∙ ap (λ l. l.calls) c.lines.ensures.same) c.loop-entry-test.true
