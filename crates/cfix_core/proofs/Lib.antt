@@ -5,5 +5,7 @@ pub mod Strip
 pub mod OneAnswer
 pub mod Repair
 pub mod Repaired
+pub mod Replays
+pub mod Stages
 mod Notes
 mod Causes

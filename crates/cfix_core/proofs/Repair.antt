@@ -6,10 +6,16 @@ use Rattle.report_json.specs.declared.fault.ReportFault.TheVariants as fault
 use Rattle.report_json.specs.declared.report.Report.{Report}
 use Rattle.report_json.specs.Reading.{SpellsReports, ExplainsReportFault}
 use Rattle.report_json.proofs.Unique.{reads, bad_json, outer_shape, too_many, report_shape}
-use Rattle.first_form.specs.Spelled.{spelled}
+use Rattle.first_form.specs.Form.{is_first_form}
+use Rattle.c_read.proofs.Once.{one_flaw, no_flaw, one_reading}
 use Rattle.cfix_core.specs.OneReport.{only_report}
-use Rattle.cfix_core.specs.Repair.{IsSource, IsReport, OtherReports, Reads, in_one_visit, Visits, OtherVisits, refusal_for, Breaks, Unbound, refusal_of, Wrong, RefusedBy, IsAccepted, Repaired}
-use Rattle.cfix_core.specs.declared.patch.Refusal.{Refusal}
+use Rattle.cfix_core.specs.Repair.{IsReport, OtherReports, Reads, in_one_visit, Visits, OtherVisits, refusal_for, Breaks, Unbound, refusal_of, Wrong, RefusedBy, IsAccepted, Repaired}
+use Rattle.cfix_core.specs.declared.failure.Refusal.{Refusal}
+use Rattle.cfix_core.specs.declared.failure.Refusal.TheVariants.{Source, Form}
+use Rattle.cfix_core.specs.Sources.{IsRefusedSource, Shown, IsFirstSource, IsOtherSource, IsNoFirstSource}
+use Rattle.c_names.specs.Texts.{Accepts}
+use Rattle.c_names.specs.Sources.{source_of}
+use Rattle.c_read.specs.Reading.{Reads as IsReadAs}
 use Rattle.cfix_core.proofs.OneAnswer.{one_bound, one_fault, bound_refused}
 
 none_some : {X : Type 0} (o : Option X) (x : X) → o ≡ None → o ≡ Some x → ⊥
@@ -23,8 +29,37 @@ false_true b e f = cc
 
 -- ---- the source
 
-same_source : (text : List ℕ) (a b : SourceTree) → IsSource text a → IsSource text b → a ≡ b
-same_source text a b p q = same_value (spelled text) a b p.spells q.spells
+same_source : (text : List ℕ) (a b : SourceTree) → IsFirstSource text a → IsFirstSource text b → a ≡ b
+same_source text a b p q = one_reading text a b p.reads q.reads
+
+-- a source that is read is not refused
+pub refused_reads : (refusal : Refusal) (text : List ℕ) (source : SourceTree) → IsRefusedSource refusal text → IsReadAs text source → ⊥
+refused_reads refusal text source p q = no_flaw text source p.flaw q p.flawed
+
+pub one_refused_source : (a b : Refusal) (text : List ℕ) → IsRefusedSource a text → IsRefusedSource b text → b ≡ a
+one_refused_source a b text p q = q.is_refusal ∙ ap Source (one_flaw text q.flaw p.flaw q.flawed p.flawed) ∙ sym p.is_refusal
+
+pub not_shown : (refusal : Refusal) (text shown : List ℕ) → Shown text shown → IsRefusedSource refusal text → ⊥
+not_shown refusal text shown p q = refused_reads refusal text p.source q p.reads
+
+pub not_refused_source : (refusal : Refusal) (text : List ℕ) → Accepts text → IsRefusedSource refusal text → ⊥
+not_refused_source refusal text a q =
+    refused_reads refusal text (source_of a.file) q (record { accepted = a; is_source = refl })
+
+other_first : (text : List ℕ) (source : SourceTree) → IsOtherSource text → IsFirstSource text source → ⊥
+other_first text source p q =
+    false_true (is_first_form source.tree)
+    (sym (ap (λ (s : SourceTree). is_first_form s.tree) (one_reading text p.source source p.reads q.reads)) ∙ p.other) q.form
+
+no_first : (refusal : Refusal) (text : List ℕ) (source : SourceTree) → IsNoFirstSource refusal text → IsFirstSource text source → ⊥
+no_first refusal text source (inl p) q = refused_reads refusal text source p q.reads
+no_first refusal text source (inr p) q = other_first text source p.1 q
+
+no_first_once : (a b : Refusal) (text : List ℕ) → IsNoFirstSource a text → IsNoFirstSource b text → b ≡ a
+no_first_once a b text (inl p) (inl q) = one_refused_source a b text p q
+no_first_once a b text (inl p) (inr q) = absurd (refused_reads a text q.1.source p q.1.reads)
+no_first_once a b text (inr p) (inl q) = absurd (refused_reads b text p.1.source q p.1.reads)
+no_first_once a b text (inr p) (inr q) = q.0 ∙ sym p.0
 
 -- ---- the reports
 
@@ -126,7 +161,7 @@ moved S source reports a b p =
 
 -- nothing is answered but what is accepted
 pub not_refused : (refusal : Refusal) (source reports : List ℕ) → IsAccepted source reports → RefusedBy refusal source reports → ⊥
-not_refused refusal source reports a (inl p) = p.1 a.reads.program a.reads.is_source
+not_refused refusal source reports a (inl p) = no_first refusal source a.reads.program p a.reads.is_source
 not_refused refusal source reports a (inr (inl p)) = wrong_report reports refusal a.reads.report p.wrong a.reads.is_report
 not_refused refusal source reports a (inr (inr p)) =
     unbound_visits a.reads.program a.reads.report refusal (moved (Unbound refusal) source reports a.reads p.reads p.unbound) a.visits
@@ -137,13 +172,13 @@ not_repaired refusal source reports text repaired why =
     not_refused refusal source reports (record { reads = repaired.reads; visits = repaired.repaired.visits }) why
 
 pub one_refusal : (a b : Refusal) (source reports : List ℕ) → RefusedBy a source reports → RefusedBy b source reports → b ≡ a
-one_refusal a b source reports (inl p) (inl q) = q.0 ∙ sym p.0
-one_refusal a b source reports (inl p) (inr (inl q)) = absurd (p.1 q.program q.is_source)
-one_refusal a b source reports (inl p) (inr (inr q)) = absurd (p.1 q.reads.program q.reads.is_source)
-one_refusal a b source reports (inr (inl p)) (inl q) = absurd (q.1 p.program p.is_source)
+one_refusal a b source reports (inl p) (inl q) = no_first_once a b source p q
+one_refusal a b source reports (inl p) (inr (inl q)) = absurd (no_first a source q.program p q.is_source)
+one_refusal a b source reports (inl p) (inr (inr q)) = absurd (no_first a source q.reads.program p q.reads.is_source)
+one_refusal a b source reports (inr (inl p)) (inl q) = absurd (no_first b source p.program q p.is_source)
 one_refusal a b source reports (inr (inl p)) (inr (inl q)) = wrong_once reports a b p.wrong q.wrong
 one_refusal a b source reports (inr (inl p)) (inr (inr q)) = absurd (wrong_report reports a q.reads.report p.wrong q.reads.is_report)
-one_refusal a b source reports (inr (inr p)) (inl q) = absurd (q.1 p.reads.program p.reads.is_source)
+one_refusal a b source reports (inr (inr p)) (inl q) = absurd (no_first b source p.reads.program q p.reads.is_source)
 one_refusal a b source reports (inr (inr p)) (inr (inl q)) = absurd (wrong_report reports b p.reads.report q.wrong p.reads.is_report)
 one_refusal a b source reports (inr (inr p)) (inr (inr q)) =
     unbound_once p.reads.program p.reads.report a b p.unbound (moved (Unbound b) source reports p.reads q.reads q.unbound)

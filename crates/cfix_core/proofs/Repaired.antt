@@ -31,10 +31,12 @@ use Rattle.first_form.specs.Form.{is_first_form, plains_of, acts_of}
 use Rattle.first_form.specs.Straight.{bare, guarded}
 use Rattle.first_form.proofs.FirstTrees.{first-is, nodes-first}
 use Rattle.cfix_core.specs.Patched.{IsPatched}
-use Rattle.cfix_core.specs.Repair.{IsSource, IsRepaired, Breaks, Unbound, IsBound, failure_for, region_of_atom, region_of, RepairedFor, Repaired, RefusedWith, RefusedBy, FailsBy}
-use Rattle.cfix_core.specs.declared.patch.Failure.{Failure}
-use Rattle.cfix_core.specs.declared.patch.Failure.TheVariants as failure
-use Rattle.cfix_core.specs.declared.patch.Refusal.TheVariants.{OtherMode}
+use Rattle.cfix_core.specs.Failures.{FailsBy}
+use Rattle.cfix_core.specs.Sources.{IsFirstSource}
+use Rattle.cfix_core.specs.Repair.{IsRepaired, Breaks, Unbound, IsBound, failure_for, region_of_atom, region_of, RepairedFor, Repaired, RefusedWith, RefusedBy}
+use Rattle.cfix_core.specs.declared.failure.Failure.{Failure}
+use Rattle.cfix_core.specs.declared.failure.Failure.TheVariants as failure
+use Rattle.cfix_core.specs.declared.failure.Refusal.TheVariants.{OtherMode}
 use Rattle.cfix_core.proofs.StraightPlan.{straight_is_patched}
 use Rattle.cfix_core.proofs.Strip.{strip_guarded}
 
@@ -148,7 +150,7 @@ breaks_rule program report (unbound.NotRoot f) h = tt
 breaks_rule program report unbound.MaybeAccess h = tt
 breaks_rule program report (unbound.OrderCycle n) h = tt
 
-pub repaired_whole : (source reports text : List ℕ) (program : SourceTree) (list : List Report) → IsSource source program
+pub repaired_whole : (source reports text : List ℕ) (program : SourceTree) (list : List Report) → IsFirstSource source program
     → SpellsReports reports list → RepairedFor program list text → Repaired source reports text
 repaired_whole source reports text program list is spells done = record {
   reads = record {
@@ -160,7 +162,7 @@ repaired_whole source reports text program list is spells done = record {
   repaired = done.repaired;
 }
 
-pub fails_whole : (source reports : List ℕ) (program : SourceTree) (list : List Report) (stop : Failure) → IsSource source program
+pub fails_whole : (source reports : List ℕ) (program : SourceTree) (list : List Report) (stop : Failure) → IsFirstSource source program
     → SpellsReports reports list → FailsBy (λ refusal. RefusedWith refusal program list) stop
     → FailsBy (λ refusal. RefusedBy refusal source reports) stop
 fails_whole source reports program list failure.NoMemory is spells h = tt

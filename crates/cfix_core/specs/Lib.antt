@@ -3,8 +3,12 @@ pub mod Orders
 pub mod Operations
 pub mod Patched
 pub mod OneReport
+pub mod Failures
+pub mod Sources
 pub mod Repair
 pub mod Words
 pub mod NamedFiles
+pub mod Replay
 pub mod Stops
 pub mod Answers
+pub mod Stages

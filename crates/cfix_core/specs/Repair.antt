@@ -15,23 +15,14 @@ use Rattle.report_bind.specs.Fits.{Fits}
 use Rattle.report_bind.specs.declared.fault.BindFault.{BindFault}
 use Rattle.report_bind.specs.declared.fault.BindFault.TheVariants as unbound
 use Rattle.report_json.specs.Reading.{SpellsReports, ExplainsReportFault}
-use Rattle.first_form.specs.Form.{is_first_form}
-use Rattle.first_form.specs.Spelled.{spelled}
 use Rattle.first_form.specs.declared.region.Region.{Region}
 use Rattle.cfix_core.specs.OneReport.{only_report}
 use Rattle.cfix_core.specs.Patched.{IsPatched}
-use Rattle.cfix_core.specs.declared.patch.Refusal.{Refusal}
-use Rattle.cfix_core.specs.declared.patch.Refusal.TheVariants.{Source, NotJson, Shape, TooMany, Reports, NoSite, StackBroken, NoPath, OtherMode}
-use Rattle.cfix_core.specs.declared.patch.Failure.{Failure}
-use Rattle.cfix_core.specs.declared.patch.Failure.TheVariants as failure
-
--- the source spells this program with these lines, which is of the first form
-pub record IsSource (text : List ℕ) (source : SourceTree) : Type 0 where
-  pub spells : spelled text ≡ Some source
-  pub form : is_first_form source.tree ≡ true
-
-abbrev pub NoSource : List ℕ → Type 0
-NoSource text = (source : SourceTree) → IsSource text source → ⊥
+use Rattle.cfix_core.specs.Sources.{IsFirstSource, IsNoFirstSource}
+use Rattle.cfix_core.specs.declared.failure.Refusal.{Refusal}
+use Rattle.cfix_core.specs.declared.failure.Refusal.TheVariants.{NotJson, Shape, TooMany, Reports, NoSite, StackBroken, NoPath, OtherMode}
+use Rattle.cfix_core.specs.declared.failure.Failure.{Failure}
+use Rattle.cfix_core.specs.declared.failure.Failure.TheVariants as failure
 
 -- the reports are this one atomicity report, without stacks
 pub record IsReport (reports : List ℕ) (report : Report) : Type 0 where
@@ -48,7 +39,7 @@ pub record OtherReports (reports : List ℕ) : Type 0 where
 -- both files are of the first form
 pub record Reads (source reports : List ℕ) : Type 0 where
   pub program : SourceTree
-  pub is_source : IsSource source program
+  pub is_source : IsFirstSource source program
   pub report : Report
   pub is_report : IsReport reports report
 
@@ -116,7 +107,7 @@ Wrong refusal reports = Faulty refusal reports ⊎ ((refusal ≡ Reports) × Oth
 -- the source is read, and the reports are refused
 pub record RefusesReports (refusal : Refusal) (source reports : List ℕ) : Type 0 where
   pub program : SourceTree
-  pub is_source : IsSource source program
+  pub is_source : IsFirstSource source program
   pub wrong : Wrong refusal reports
 
 -- both files are read, and the report is not bound as is asked
@@ -127,7 +118,7 @@ pub record RefusesReport (refusal : Refusal) (source reports : List ℕ) : Type 
 -- why the files are refused: for the source, for the reports, or for what the one report means
 abbrev pub RefusedBy : Refusal → List ℕ → List ℕ → Type 0
 RefusedBy refusal source reports =
-    ((refusal ≡ Source) × NoSource source) ⊎ (RefusesReports refusal source reports ⊎ RefusesReport refusal source reports)
+    IsNoFirstSource refusal source ⊎ (RefusesReports refusal source reports ⊎ RefusesReport refusal source reports)
 
 -- nothing refuses the files
 pub record IsAccepted (source reports : List ℕ) : Type 0 where
@@ -138,11 +129,6 @@ pub record IsAccepted (source reports : List ℕ) : Type 0 where
 pub record Repaired (source reports text : List ℕ) : Type 0 where
   pub reads : Reads source reports
   pub repaired : IsRepaired reads.program reads.report text
-
--- why a stage fails; want of memory needs no reason
-abbrev pub FailsBy : (Refusal → Type 0) → Failure → Type 0
-FailsBy Why failure.NoMemory = Unit {0}
-FailsBy Why (failure.Refused refusal) = Why refusal
 
 -- the failure for a fault of the text of the reports
 abbrev pub failure_of : ReportFault → Failure

@@ -1,8 +1,9 @@
 ghost use Rattle.std.specs.Prelude.{◌≡◌, true, IfOk, IfErr};
 ghost use Rattle.cfix_core.specs.OneReport.{is_bare};
-ghost use Rattle.cfix_core.specs.Repair.{Breaks, IsBound, HasRefusal, FailsBy, failure_for, region_of_atom, region_of};
+ghost use Rattle.cfix_core.specs.Failures.{FailsBy};
+ghost use Rattle.cfix_core.specs.Repair.{Breaks, IsBound, HasRefusal, failure_for, region_of_atom, region_of};
 
-use crate::patch::{Failure, Refusal};
+use crate::failure::{Failure, Refusal};
 use c_prog::Source;
 use first_form::Region;
 use plan_types::{Atom, Bound};

@@ -3,14 +3,21 @@
 
 mod binding;
 mod command;
+mod failure;
 mod note;
 mod one_report;
 mod patch;
+mod reading;
+mod replay;
+mod show;
 mod stop;
 #[cfg(test)]
 mod tests;
+mod texts;
 mod top;
 mod words;
 
-pub use patch::{Failure, Refusal, patched};
+pub use failure::{Failure, Refusal};
+pub use patch::patched;
+pub use show::shown;
 pub use top::run;

@@ -2,79 +2,22 @@ ghost use Rattle.std.specs.Prelude.{◌≡◌, ◌<◌, ◌≤◌, length, true,
 ghost use Rattle.first_form.specs.Form.{is_first_form, plains_of};
 ghost use Rattle.report_json.specs.Reading.{SpellsReports};
 ghost use Rattle.cfix_core.specs.OneReport.{is_bare};
-ghost use Rattle.cfix_core.specs.Repair.{IsSource, NoSource, Wrong, Unbound, IsRepaired, Repaired, RefusedBy, RepairedFor, RefusedWith, FailsBy, failure_of};
+ghost use Rattle.cfix_core.specs.Failures.{FailsBy};
+ghost use Rattle.cfix_core.specs.Repair.{Wrong, Unbound, IsRepaired, Repaired, RefusedBy, RepairedFor, RefusedWith, failure_of};
 ghost use Rattle.c_print.specs.Text.Canonical.{canonical};
 ghost use Rattle.first_form.specs.Form.{acts_of};
 ghost use Rattle.first_form.specs.Straight.{guarded};
 
 use crate::binding::{bound_of, region_of};
+use crate::failure::{Failure, Refusal};
 use crate::one_report::only_report;
+use crate::reading::first_source_of;
 use c_print::print;
 use c_prog::Source;
-use cfix_base::{NoMemory, NodeId};
-use first_form::{Plain, Region, first_source, guarded, is_first_form, plains_of};
-use report_bind::Role;
+use cfix_base::NoMemory;
+use first_form::{Plain, Region, guarded, plains_of};
 use report_json::{Report, ReportFault, Reports, reports};
 use std::alloc::Global;
-
-/// Why the two files are refused.
-#[derive(Clone, Copy, Debug, PartialEq, Eq)]
-pub enum Refusal {
-    /// The source is not of the first form.
-    Source,
-    /// The reports are no JSON.
-    NotJson,
-    /// The outer value of the reports has another shape (none), or the report of this number is the
-    /// first that has.
-    Shape(Option<u32>),
-    /// There are more reports than may be.
-    TooMany,
-    /// The reports are not of the first form.
-    Reports,
-    /// This site means no access.
-    NoSite(Role),
-    /// The stack of this site means no calls.
-    StackBroken(Role),
-    /// No path of control leads from the first node, of p, to the second, of c.
-    NoPath(NodeId, NodeId),
-    /// The report is bound, and p and c do not lie in one visit of a node.
-    OtherMode,
-}
-
-/// Why a stage did not answer.
-#[derive(Clone, Copy, Debug, PartialEq, Eq)]
-pub enum Failure {
-    NoMemory,
-    Refused(Refusal),
-}
-
-impl From<NoMemory> for Failure {
-    ghost use Rattle.cfix_core.specs.declared.patch.Failure.TheVariants as failure;
-
-    ghost from_gives = { λ _ given. given ≡ failure.NoMemory };
-
-    fn from(_: NoMemory) -> Failure {
-        Failure::NoMemory
-    }
-}
-
-/// The program of the first form that a text spells, with its lines.
-fn source_of(alloc: Global, text: &[u8]) -> Result<Source, Failure>
-    requires { length text.now ≤ 4194304 }
-    ensures read { IfOk result (λ source. IsSource text.now source) }
-    ensures refused { IfErr result (FailsBy (λ refusal. (refusal ≡ Refusal.Source) × NoSource text.now)) }
-{
-    match first_source(alloc, text)? {
-        Some(source) => {
-            if is_first_form(source.program()) {
-                Ok(source)
-            } else {
-                Err(Failure::Refused(Refusal::Source))
-            }
-        }
-        None => Err(Failure::Refused(Refusal::Source)),
-    }
-}
 
 /// The failure for a fault of the text of the reports.
 fn failure_of(fault: ReportFault) -> Failure
@@ -147,7 +90,7 @@ pub fn patched(alloc: Global, source: &[u8], reports: &[u8]) -> Result<Vec<u8>, 
     ensures done { IfOk result (λ text. Repaired source.now reports.now text.items) }
     ensures refused { IfErr result (FailsBy (λ refusal. RefusedBy refusal source.now reports.now)) }
 {
-    let program = source_of(alloc, source)?;
+    let program = first_source_of(alloc, source)?;
     let list = reports_of(alloc, reports)?;
     match patched_by(alloc, &program, &list) {
         Ok(text) => Ok(text),

@@ -3,15 +3,17 @@ ghost use Rattle.cfix_core.specs.Words.{asked_of};
 ghost use Rattle.cfix_core.specs.NamedFiles.{file_name, limit_of};
 ghost use Rattle.cfix_core.specs.Stops.{word_of, stop_of, refusal_status, status_of};
 
-use crate::patch::{Failure, Refusal};
+use crate::failure::{Failure, Refusal};
 use crate::words::Request;
-use cfix_base::{MAX_REPORTS_BYTES, MAX_SOURCE_BYTES};
+use cfix_base::{MAX_INPUT_BYTES, MAX_REPORTS_BYTES, MAX_SCHEDULE_BYTES, MAX_SOURCE_BYTES};
 
 /// A file that the words name.
 #[derive(Clone, Copy, Debug, PartialEq, Eq)]
 pub enum NamedFile {
     Program,
     Reports,
+    Input,
+    Schedule,
 }
 
 /// Why a command was not done.
@@ -36,6 +38,21 @@ pub(crate) fn name_of<'w>(request: &Request<'w>, file: NamedFile) -> Option<&'w 
         Request::Patch { source, reports } => match file {
             NamedFile::Program => Some(source),
             NamedFile::Reports => Some(reports),
+            _ => None,
+        },
+        Request::Show { source } => match file {
+            NamedFile::Program => Some(source),
+            _ => None,
+        },
+        Request::Replay {
+            source,
+            input,
+            schedule,
+        } => match file {
+            NamedFile::Program => Some(source),
+            NamedFile::Input => Some(input),
+            NamedFile::Schedule => Some(schedule),
+            NamedFile::Reports => None,
         },
     }
 }
@@ -56,6 +73,8 @@ pub(crate) fn limit_of(file: NamedFile) -> usize
     match file {
         NamedFile::Program => MAX_SOURCE_BYTES,
         NamedFile::Reports => MAX_REPORTS_BYTES,
+        NamedFile::Input => MAX_INPUT_BYTES,
+        NamedFile::Schedule => MAX_SCHEDULE_BYTES,
     }
 }
 
@@ -72,7 +91,8 @@ fn refusal_status(refusal: Refusal) -> u8
     ensures { result ≡ refusal_status refusal }
 {
     match refusal {
-        Refusal::Source => 6,
+        Refusal::Source(_) => 6,
+        Refusal::Form => 6,
         Refusal::NotJson => 7,
         Refusal::Shape(_) => 7,
         Refusal::TooMany => 7,
@@ -81,6 +101,10 @@ fn refusal_status(refusal: Refusal) -> u8
         Refusal::StackBroken(_) => 8,
         Refusal::NoPath(_, _) => 8,
         Refusal::OtherMode => 7,
+        Refusal::BadNumber(_) => 9,
+        Refusal::BadEntry(_) => 9,
+        Refusal::TooManyEntries => 9,
+        Refusal::NotEnabled(_) => 9,
     }
 }
 

@@ -1,6 +1,12 @@
+mod classic;
+mod counter;
 mod examples;
 mod failing;
 mod limits;
+mod operations;
+mod replaying;
 mod reports;
+mod ring;
 mod scene;
+mod showing;
 mod wording;

@@ -1,7 +1,7 @@
 ghost use Rattle.std.specs.Prelude.{◌≡◌, ◌≢◌, ◌≤◌, ◌⊎◌, ◌↔◌, None};
 ghost use Rattle.cfix_outside.specs.Faults.{Rose};
 ghost use Rattle.cfix_core.specs.Words.{texts, request_of};
-ghost use Rattle.cfix_core.specs.Answers.{Done, Cut, ReadFails, RefusedAs, Accepted, Still, Must, Told, Spoken};
+ghost use Rattle.cfix_core.specs.Answers.{Done, Cut, ReadFails, RefusedAs, Accepted, Still, Must, NothingPut, Ends, Spoken};
 ghost use Rattle.cfix_core.specs.declared.stop.Stop.{Stop};
 
 use crate::command::work;
@@ -19,7 +19,7 @@ pub fn run<H: Shelf, O: Sink, N: Sink>(
     out: &mut O,
     note: &mut N,
 ) -> u8
-    ensures range { (result ≤ 8) × (result ≢ 1) }
+    ensures range { (result ≤ 9) × (result ≢ 1) }
 
     // What a status says.
     ensures done { result ≡ 0 → Done (request_of (texts words.now)) (H.files shelf.old) (O.taken out.old) (O.taken out.new) }
@@ -30,11 +30,12 @@ pub fn run<H: Shelf, O: Sink, N: Sink>(
     ensures source { result ≡ 6 → RefusedAs 6 (request_of (texts words.now)) (H.files shelf.old) }
     ensures reports { result ≡ 7 → RefusedAs 7 (request_of (texts words.now)) (H.files shelf.old) }
     ensures site { result ≡ 8 → RefusedAs 8 (request_of (texts words.now)) (H.files shelf.old) }
+    ensures schedule { result ≡ 9 → RefusedAs 9 (request_of (texts words.now)) (H.files shelf.old) }
 
     // What stands in the output.
     ensures cut { result ≡ 5 → Cut (request_of (texts words.now)) (H.files shelf.old) (O.taken out.old) (O.taken out.new) }
-    ensures nothing { result ≢ 0 → result ≢ 5 → O.taken out.new ≡ O.taken out.old }
-    ensures untried { result ≢ 0 → result ≢ 5 → O.faults out.new ≡ O.faults out.old }
+    ensures nothing { result ≢ 0 → result ≢ 5 → NothingPut result (request_of (texts words.now)) → O.taken out.new ≡ O.taken out.old }
+    ensures untried { result ≢ 0 → result ≢ 5 → NothingPut result (request_of (texts words.now)) → O.faults out.new ≡ O.faults out.old }
 
     // What stands in the notes.
     ensures silent { result ≡ 0 → N.taken note.new ≡ N.taken note.old }
@@ -44,7 +45,7 @@ pub fn run<H: Shelf, O: Sink, N: Sink>(
     // What must stop the command stops it so, and nothing else does.
     ensures exact { (stop : Stop) → Must stop (request_of (texts words.now)) (H.files shelf.old)
         → Still (request_of (texts words.now)) (H.faults shelf.old) (H.faults shelf.new)
-        → (result ≡ 3) ⊎ Told stop result (request_of (texts words.now)) (N.taken note.old) (N.taken note.new) (N.faults note.old) (N.faults note.new) }
+        → Ends stop result (request_of (texts words.now)) (N.taken note.old) (N.taken note.new) (N.faults note.old) (N.faults note.new) }
     ensures complete { Accepted (request_of (texts words.now)) (H.files shelf.old)
         → Still (request_of (texts words.now)) (H.faults shelf.old) (H.faults shelf.new)
         → (Rose (O.faults out.old) (O.faults out.new) → ⊥)

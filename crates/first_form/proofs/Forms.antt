@@ -30,7 +30,7 @@ use Rattle.first_form.specs.declared.plain.Given.TheVariants as given
 use Rattle.first_form.specs.declared.plain.Plain.{Plain}
 use Rattle.first_form.specs.declared.plain.Plain.TheVariants as plain
 use Rattle.first_form.specs.Form.{without_index, scalar, number_given, given_level, given_target, given_by, assigned, assigned_by, plain_act, plain_level, plain_of, target_of, act_of}
-use Rattle.first_form.proofs.Sound.{some-is, if-some, bind-some}
+use Rattle.first_form.proofs.Options.{some-is, if-some, bind-some}
 
 scalar-at : (count : ℕ) (v : Var) (i : Option Expr)
     → fold-Target (Option Given) (Option VarId) given_level (given_target count) (record { var = v; index = i })

@@ -1,6 +1,4 @@
-pub mod Many
-pub mod Sound
+pub mod Options
 pub mod Forms
 pub mod Acts
-pub mod Lined
 pub mod FirstTrees

@@ -54,7 +54,7 @@ fn body(alloc: Global, plains: &[Plain], region: Option<Region>) -> Result<Items
 }
 
 /// The bytes, as a list.
-pub fn bytes(alloc: Global, text: &[u8]) -> Result<List<u8>, NoMemory>
+fn bytes(alloc: Global, text: &[u8]) -> Result<List<u8>, NoMemory>
     ensures { IfOk result (λ list. list ≡ text.now) }
 {
     Ok(List::from_vec(text.to_vec(alloc)?))
@@ -76,7 +76,7 @@ fn main_of(alloc: Global, plains: &[Plain], region: Option<Region>) -> Result<Fu
 }
 
 /// The program of these globals and statements, with the operations of lock 0 round a region.
-pub fn straight(
+fn straight(
     alloc: Global,
     globals: List<Variable>,
     plains: &[Plain],

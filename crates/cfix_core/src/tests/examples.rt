@@ -1,4 +1,5 @@
-use super::scene::{COUNTER, COUNTER_PATCHED, COUNTER_REPORT, patch, play};
+use super::counter::{COUNTER, COUNTER_PATCHED, COUNTER_REPORT};
+use super::scene::{patch, play};
 
 /// The program of the second example, with its statements at lines 4 to 6.
 const THREE: &[u8] = b"int a;\nint b;\nint main(void) {\na++;\nb = 1;\na = 2;\n}\n";
@@ -96,6 +97,7 @@ const TURNED: &[u8] = b"{\"reports\":[{\"kind\":\"atomicity\",
 fn the_examples_are_patched_or_refused(rt: HostRuntime) {
     let alloc = rt.alloc();
     let outside = b"cfix: reports: outside the first form\n".as_slice();
+    let other = b"cfix: source is outside the first form\n".as_slice();
     for (source, reports, status, out, note) in [
         (
             COUNTER,
@@ -129,15 +131,12 @@ fn the_examples_are_patched_or_refused(rt: HostRuntime) {
             THREE_REPORT,
             6,
             b"",
-            b"cfix: source is outside the first form\n",
+            b"cfix: source line 1: unknown name\n",
         ),
-        (
-            b"\xff",
-            b"",
-            6,
-            b"",
-            b"cfix: source is outside the first form\n",
-        ),
+        (b"\xff", b"", 6, b"", b"cfix: source line 1: bad byte\n"),
+        (b"int a; int main(void) { a--; }", b"", 6, b"", other),
+        (b"int a = 1; int main(void) { }", b"", 6, b"", other),
+        (COUNTER_PATCHED, b"", 6, b"", other),
     ] {
         let ended = play(alloc, &patch(source, reports)).expect(&rt, "memory");
         assert_eq!(rt; ended.status, status);

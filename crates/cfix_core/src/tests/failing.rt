@@ -1,4 +1,6 @@
-use super::scene::{COUNTER, COUNTER_PATCHED, COUNTER_REPORT, Scene, patch, play};
+use super::classic::{CLASSIC, CLASSIC_SHOWN};
+use super::counter::{COUNTER, COUNTER_PATCHED, COUNTER_REPORT};
+use super::scene::{Scene, patch, play, show};
 
 /// The first example, with the calls of the shelf, of the output and of the notes that fail.
 #[test]
@@ -53,4 +55,44 @@ fn a_missing_file_cannot_be_read(rt: HostRuntime) {
         ended.note.taken(),
         b"cfix: cannot read r.json\n".as_slice()
     );
+}
+
+#[test]
+fn each_fault_of_a_shown_source_has_its_line(rt: HostRuntime) {
+    let alloc = rt.alloc();
+    let none: &[(u32, u32)] = &[];
+    let first = &[(0u32, 0u32)].as_slice();
+    for (reads, puts, notes, status, out, note) in [
+        (
+            *first,
+            none,
+            none,
+            4u8,
+            b"".as_slice(),
+            b"cfix: cannot read p.c\n".as_slice(),
+        ),
+        (none, first, none, 5, b"", b"cfix: cannot write\n"),
+        (none, &[(0, 1)], none, 5, b"#", b"cfix: cannot write\n"),
+        (
+            none,
+            &[(1, 10)],
+            none,
+            5,
+            &CLASSIC_SHOWN[..266],
+            b"cfix: cannot write\n",
+        ),
+        (none, &[(1, 10)], first, 5, &CLASSIC_SHOWN[..266], b""),
+        (none, none, first, 0, CLASSIC_SHOWN, b""),
+    ] {
+        let scene = Scene {
+            reads,
+            puts,
+            notes,
+            ..show(CLASSIC)
+        };
+        let ended = play(alloc, &scene).expect(&rt, "memory");
+        assert_eq!(rt; ended.status, status);
+        assert_eq!(rt; ended.out.taken(), out);
+        assert_eq!(rt; ended.note.taken(), note);
+    }
 }

@@ -1,4 +1,6 @@
-use super::scene::{COUNTER, COUNTER_PATCHED, COUNTER_REPORT, patch, play};
+use super::counter::{COUNTER, COUNTER_PATCHED, COUNTER_REPORT};
+use super::scene::{Ended, Scene, patch, play, replay, show};
+use cfix_base::NoMemory;
 use std::alloc::{AllocError, Global};
 use std::test::Fail;
 
@@ -39,6 +41,199 @@ fn files_are_read_up_to_their_limits(rt: HostRuntime) -> Result<(), Fail> {
         assert_eq!(rt; ended.status, status);
         assert_eq!(rt; ended.out.taken(), out);
         assert_eq!(rt; ended.note.taken(), note);
+    }
+    Ok(())
+}
+
+#[test]
+fn the_files_of_a_replay_are_read_up_to_their_limits(rt: HostRuntime) -> Result<(), Fail> {
+    let alloc = rt.alloc();
+    for (input, schedule, note) in [
+        (
+            1048577usize,
+            8388609usize,
+            b"cfix: i.txt is longer than 1048576 bytes\n".as_slice(),
+        ),
+        (0, 8388609, b"cfix: s.txt is longer than 8388608 bytes\n"),
+    ] {
+        let input = filled(alloc, b"", input)?;
+        let schedule = filled(alloc, b"", schedule)?;
+        let ended = play(alloc, &replay(COUNTER, &input, &schedule)).expect(&rt, "memory");
+        assert_eq!(rt; ended.status, 4);
+        assert!(rt; ended.out.taken().is_empty());
+        assert_eq!(rt; ended.note.taken(), note);
+    }
+    Ok(())
+}
+
+/// A text of a front, so many copies of a piece, a middle, as many copies of another piece, and an end.
+fn copies(
+    alloc: Global,
+    front: &[u8],
+    piece: &[u8],
+    count: usize,
+    middle: &[u8],
+    other: &[u8],
+    end: &[u8],
+) -> Result<Vec<u8>, AllocError> {
+    let mut text = front.to_vec(alloc)?;
+    for _ in 0..count {
+        text.extend_from_slice(piece)?;
+    }
+    text.extend_from_slice(middle)?;
+    for _ in 0..count {
+        text.extend_from_slice(other)?;
+    }
+    text.extend_from_slice(end)?;
+    Ok(text)
+}
+
+/// The canonical text of a source, for which there is ample room.
+fn shown(alloc: Global, source: &[u8]) -> Result<Ended, NoMemory> {
+    let scene = Scene {
+        room: 1000000,
+        ..show(source)
+    };
+    play(alloc, &scene)
+}
+
+const HEADER: &[u8] = b"#include <pthread.h>\n#include <stdio.h>\n\n";
+
+#[test]
+fn parentheses_and_signs_may_nest_200_deep(rt: HostRuntime) -> Result<(), Fail> {
+    let alloc = rt.alloc();
+    let deep = b"cfix: source line 1: nested too deep\n".as_slice();
+    for (front, piece, middle, other, end) in [
+        (
+            b"int x; int main(void) { x = ".as_slice(),
+            b"(".as_slice(),
+            b"1".as_slice(),
+            b")".as_slice(),
+            b"; }".as_slice(),
+        ),
+        (b"int x; int main(void) { x = 1", b" + 1", b"", b"", b"; }"),
+        (b"int x; int main(void) { x = ", b"!", b"1", b"", b"; }"),
+        (b"int x; int main(void) { ", b"{ ", b"x = 1;", b" }", b" }"),
+    ] {
+        for (count, status, note) in [(200usize, 0u8, b"".as_slice()), (201, 6, deep)] {
+            let source = copies(alloc, front, piece, count, middle, other, end)?;
+            let ended = shown(alloc, &source).expect(&rt, "memory");
+            assert_eq!(rt; ended.note.taken(), note);
+            assert_eq!(rt; ended.status, status);
+        }
+    }
+    Ok(())
+}
+
+/// Parentheses that need not stand are not shown.
+#[test]
+fn needless_parentheses_are_gone(rt: HostRuntime) -> Result<(), Fail> {
+    let alloc = rt.alloc();
+    let source = copies(
+        alloc,
+        b"int x; int main(void) { x = ",
+        b"(",
+        200,
+        b"1",
+        b")",
+        b"; }",
+    )?;
+    let text = copies(
+        alloc,
+        HEADER,
+        b"",
+        0,
+        b"int x = 0;\n\n",
+        b"",
+        b"int main(void) {\n    x = 1;\n}\n",
+    )?;
+    let ended = shown(alloc, &source).expect(&rt, "memory");
+    assert_eq!(rt; ended.out.taken(), text.as_slice());
+    assert_eq!(rt; ended.status, 0);
+    Ok(())
+}
+
+#[test]
+fn there_are_at_most_a_million_tokens(rt: HostRuntime) -> Result<(), Fail> {
+    let alloc = rt.alloc();
+    let source = copies(alloc, b"", b";", 1000001, b"", b"", b"")?;
+    let ended = shown(alloc, &source).expect(&rt, "memory");
+    assert_eq!(rt;
+        ended.note.taken(),
+        b"cfix: source line 1: too many tokens\n".as_slice()
+    );
+    assert_eq!(rt; ended.status, 6);
+    Ok(())
+}
+
+#[test]
+fn arrays_statements_and_functions_are_limited(rt: HostRuntime) -> Result<(), Fail> {
+    let alloc = rt.alloc();
+    let limit = b"cfix: source line 1: limit passed\n".as_slice();
+    for (front, piece, count, end, status, note) in [
+        (
+            b"int a[65536]; int main(void) { }".as_slice(),
+            b"".as_slice(),
+            0usize,
+            b"".as_slice(),
+            0u8,
+            b"".as_slice(),
+        ),
+        (b"int x; int main(void) { ", b"x++;", 20000, b" }", 0, b""),
+        (b"int x; int main(void) { ", b"x++;", 20001, b" }", 6, limit),
+        (
+            b"int x; int main(void) { x++; cfix_leave(999);",
+            b"",
+            0,
+            b" }",
+            0,
+            b"",
+        ),
+    ] {
+        let source = copies(alloc, front, piece, count, end, b"", b"")?;
+        let ended = shown(alloc, &source).expect(&rt, "memory");
+        assert_eq!(rt; ended.note.taken(), note);
+        assert_eq!(rt; ended.status, status);
+    }
+    Ok(())
+}
+
+/// So many functions, named by their numbers, and main.
+fn functions(alloc: Global, count: u32) -> Result<Vec<u8>, AllocError> {
+    let mut text = Vec::new(alloc);
+    for number in 0..count {
+        let name = format!(in alloc; "void f{number}(void) {{ }} ")?;
+        text.extend_from_slice(name.as_bytes())?;
+    }
+    text.extend_from_slice(b"int main(void) { }")?;
+    Ok(text)
+}
+
+#[test]
+fn there_are_at_most_500_functions(rt: HostRuntime) -> Result<(), Fail> {
+    let alloc = rt.alloc();
+    let limit = b"cfix: source line 1: limit passed\n".as_slice();
+    for (count, status, note) in [(499u32, 0u8, b"".as_slice()), (500, 6, limit)] {
+        let source = functions(alloc, count)?;
+        let ended = shown(alloc, &source).expect(&rt, "memory");
+        assert_eq!(rt; ended.note.taken(), note);
+        assert_eq!(rt; ended.status, status);
+    }
+    Ok(())
+}
+
+#[test]
+fn a_schedule_has_at_most_a_million_entries(rt: HostRuntime) -> Result<(), Fail> {
+    let alloc = rt.alloc();
+    for (count, note) in [
+        (1000000usize, b"cfix: entry 1 is not enabled\n".as_slice()),
+        (1000001, b"cfix: schedule: more than 1000000 entries\n"),
+    ] {
+        let schedule = copies(alloc, b"", b"7\n", count, b"", b"", b"")?;
+        let ended = play(alloc, &replay(COUNTER, b"", &schedule)).expect(&rt, "memory");
+        assert_eq!(rt; ended.note.taken(), note);
+        assert!(rt; ended.out.taken().is_empty());
+        assert_eq!(rt; ended.status, 9);
     }
     Ok(())
 }

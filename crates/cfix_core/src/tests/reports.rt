@@ -1,4 +1,5 @@
-use super::scene::{COUNTER, COUNTER_PATCHED, COUNTER_REPORT, patch, play};
+use super::counter::{COUNTER, COUNTER_PATCHED, COUNTER_REPORT};
+use super::scene::{patch, play};
 use std::alloc::{AllocError, Global};
 use std::test::Fail;
 

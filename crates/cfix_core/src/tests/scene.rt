@@ -3,39 +3,19 @@ use cfix_base::{List, NoMemory};
 use cfix_outside::{FailPlan, MemoryShelf, MemorySink};
 use std::alloc::Global;
 
-/// The program of the first example: its one statement is at line 3.
-pub const COUNTER: &[u8] = b"int count;\nint main(void) {\n    count++;\n}\n";
-
-/// The report of the first example.
-pub const COUNTER_REPORT: &[u8] = b"{\"reports\":[{\"kind\":\"atomicity\",
- \"p\":{\"line\":3,\"var\":\"count\",\"access\":\"read\"},
- \"c\":{\"line\":3,\"var\":\"count\",\"access\":\"write\"},
- \"r\":{\"line\":3,\"var\":\"count\",\"access\":\"write\"}}]}
-";
-
-/// What is written for the first example.
-pub const COUNTER_PATCHED: &[u8] = b"#include <pthread.h>
-#include <stdio.h>
-#include \"cfix.h\"
-
-int count = 0;
-
-int main(void) {
-    cfix_enter(0);
-    count++;
-    cfix_leave(0);
-}
-";
-
-/// The words, the two files `p.c` and `r.json`, and the calls of the shelf and the sinks that fail.
+/// The words, the files, and the calls of the shelf and the sinks that fail. The files are `p.c` and,
+/// where they are there, `r.json`, `i.txt` and `s.txt`.
 #[derive(Clone, Copy)]
 pub struct Scene<'a> {
     pub words: &'a [&'a str],
     pub source: &'a [u8],
     pub reports: Option<&'a [u8]>,
+    pub input: Option<&'a [u8]>,
+    pub schedule: Option<&'a [u8]>,
     pub reads: &'a [(u32, u32)],
     pub puts: &'a [(u32, u32)],
     pub notes: &'a [(u32, u32)],
+    pub room: usize,
 }
 
 /// What a call of `run` left behind.
@@ -46,15 +26,40 @@ pub struct Ended {
     pub note: MemorySink,
 }
 
-/// The scene of these two files in which nothing fails.
-pub fn patch<'a>(source: &'a [u8], reports: &'a [u8]) -> Scene<'a> {
+/// The scene of these words and this source in which nothing fails.
+fn quiet<'a>(words: &'a [&'a str], source: &'a [u8]) -> Scene<'a> {
     Scene {
-        words: &["patch", "p.c", "r.json"],
+        words,
         source,
-        reports: Some(reports),
+        reports: None,
+        input: None,
+        schedule: None,
         reads: &[],
         puts: &[],
         notes: &[],
+        room: 10000,
+    }
+}
+
+/// The patch of a source for reports.
+pub fn patch<'a>(source: &'a [u8], reports: &'a [u8]) -> Scene<'a> {
+    Scene {
+        reports: Some(reports),
+        ..quiet(&["patch", "p.c", "r.json"], source)
+    }
+}
+
+/// The canonical text of a source.
+pub fn show(source: &[u8]) -> Scene<'_> {
+    quiet(&["show", "p.c"], source)
+}
+
+/// The replay of a schedule.
+pub fn replay<'a>(source: &'a [u8], input: &'a [u8], schedule: &'a [u8]) -> Scene<'a> {
+    Scene {
+        input: Some(input),
+        schedule: Some(schedule),
+        ..quiet(&["replay", "p.c", "i.txt", "s.txt"], source)
     }
 }
 
@@ -74,12 +79,24 @@ fn texts(alloc: Global, words: &[&str]) -> Result<Vec<String>, NoMemory> {
     Ok(texts)
 }
 
+fn add_file(
+    alloc: Global,
+    files: &mut Vec<(String, Vec<u8>)>,
+    name: &str,
+    text: Option<&[u8]>,
+) -> Result<(), NoMemory> {
+    if let Some(text) = text {
+        files.push((String::from_str(alloc, name)?, text.to_vec(alloc)?))?;
+    }
+    Ok(())
+}
+
 fn shelf(alloc: Global, scene: &Scene<'_>) -> Result<MemoryShelf, NoMemory> {
     let mut files = Vec::new(alloc);
-    files.push((String::from_str(alloc, "p.c")?, scene.source.to_vec(alloc)?))?;
-    if let Some(reports) = scene.reports {
-        files.push((String::from_str(alloc, "r.json")?, reports.to_vec(alloc)?))?;
-    }
+    add_file(alloc, &mut files, "p.c", Some(scene.source))?;
+    add_file(alloc, &mut files, "r.json", scene.reports)?;
+    add_file(alloc, &mut files, "i.txt", scene.input)?;
+    add_file(alloc, &mut files, "s.txt", scene.schedule)?;
     Ok(MemoryShelf::new(files, plan(alloc, scene.reads)?))
 }
 
@@ -87,7 +104,7 @@ fn shelf(alloc: Global, scene: &Scene<'_>) -> Result<MemoryShelf, NoMemory> {
 pub fn play(alloc: Global, scene: &Scene<'_>) -> Result<Ended, NoMemory> {
     let words = texts(alloc, scene.words)?;
     let mut shelf = shelf(alloc, scene)?;
-    let mut out = MemorySink::with_room(alloc, 10000, plan(alloc, scene.puts)?)?;
+    let mut out = MemorySink::with_room(alloc, scene.room, plan(alloc, scene.puts)?)?;
     let mut note = MemorySink::with_room(alloc, 10000, plan(alloc, scene.notes)?)?;
     let status = run(alloc, &words, &mut shelf, &mut out, &mut note);
     Ok(Ended { status, out, note })

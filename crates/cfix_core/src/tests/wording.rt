@@ -1,4 +1,5 @@
-use super::scene::{COUNTER, COUNTER_REPORT, Scene, patch, play};
+use super::counter::{COUNTER, COUNTER_REPORT};
+use super::scene::{Scene, patch, play};
 
 #[test]
 fn other_words_are_no_command(rt: HostRuntime) {
@@ -9,7 +10,14 @@ fn other_words_are_no_command(rt: HostRuntime) {
         &["patch", "p.c"],
         &["patch", "p.c", "r.json", "r.json"],
         &["Patch", "p.c", "r.json"],
+        &["show"],
         &["show", "p.c", "r.json"],
+        &["show", "-"],
+        &["patch", "p.c", "r.json", "p.c"],
+        &["replay", "p.c", "i.txt"],
+        &["replay", "p.c", "i.txt", "s.txt", "p.c"],
+        &["replay", "p.c", "i.txt", "-s.txt"],
+        &["erase", "p.c", "i.txt", "s.txt"],
         &["", "p.c", "r.json"],
         &["patch", "-p.c", "r.json"],
         &["patch", "p.c", "-"],

@@ -1,7 +1,7 @@
 use Rattle.std.proofs.Common.{ℕ, List, [], ◌∷◌, ◌++◌, codes, OnOk, OnErr, sym, subst}
 use Rattle.cfix_outside.specs.Sinks.{Gained, GainedFront}
 use Rattle.cfix_core.specs.Stops.{refusal_line}
-use Rattle.cfix_core.specs.declared.patch.Refusal.{Refusal}
+use Rattle.cfix_core.specs.declared.failure.Refusal.{Refusal}
 use Rattle.cfix_core.proofs.note.put_refusal.Goals as goal
 
 pub returns-in-StackBroken-clause-taken : goal.returns-in-StackBroken-clause-taken

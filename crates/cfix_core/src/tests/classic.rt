@@ -1,0 +1,71 @@
+//! Two threads that count up one variable.
+
+pub const CLASSIC: &[u8] = b"#include <pthread.h>
+int count;
+void *worker(void *arg) {
+    count++;
+    return NULL;
+}
+int main(void) {
+    pthread_t a, b;
+    pthread_create(&a, NULL, worker, NULL);
+    pthread_create(&b, NULL, worker, NULL);
+    pthread_join(a, NULL);
+    pthread_join(b, NULL);
+    printf(\"%d\\n\", count);
+    return 0;
+}
+";
+
+/// Its canonical text.
+pub const CLASSIC_SHOWN: &[u8] = b"#include <pthread.h>
+#include <stdio.h>
+
+int count = 0;
+
+void *worker(void *arg);
+
+void *worker(void *arg) {
+    count++;
+    return NULL;
+}
+
+int main(void) {
+    pthread_t a;
+    pthread_t b;
+    pthread_create(&a, NULL, worker, NULL);
+    pthread_create(&b, NULL, worker, NULL);
+    pthread_join(a, NULL);
+    pthread_join(b, NULL);
+    printf(\"%d\\n\", count);
+    return 0;
+}
+";
+
+/// The same with the operations of its repair.
+pub const CLASSIC_PATCHED: &[u8] = b"#include <pthread.h>
+#include <stdio.h>
+#include \"cfix.h\"
+
+int count = 0;
+
+void *worker(void *arg);
+
+void *worker(void *arg) {
+    cfix_enter(0);
+    count++;
+    cfix_leave(0);
+    return NULL;
+}
+
+int main(void) {
+    pthread_t a;
+    pthread_t b;
+    pthread_create(&a, NULL, worker, NULL);
+    pthread_create(&b, NULL, worker, NULL);
+    pthread_join(a, NULL);
+    pthread_join(b, NULL);
+    printf(\"%d\\n\", count);
+    return 0;
+}
+";
