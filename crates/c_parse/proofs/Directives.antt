@@ -1,17 +1,14 @@
 -- Includes and defines are read as the grammar's reader reads them.
-use Rattle.std.proofs.Common.{◌≡◌, ℕ, eqb, Bool, true, false, List, [], ◌∷◌, Option, Some, None, cond, codes, refl, sym, ap, ◌∙◌, inl, inr, ◌⊎◌}
+use Rattle.std.proofs.Common.{◌≡◌, ℕ, eqb, Bool, true, false, List, [], ◌∷◌, Option, Some, None, cond, codes, refl, sym, ap, ◌∙◌, inl, inr}
 use Rattle.std.specs.Str.{bytes_eq}
 use Rattle.cfix_base.specs.declared.Spot.{Spot}
-use Rattle.c_grammar.specs.declared.sign.Sign.{Sign}
-use Rattle.c_grammar.specs.declared.sign.Sign.TheVariants as s
-use Rattle.c_grammar.specs.Token.{Kind, IsName, IsNumber, IsQuoted, IsWord, IsOther, IsSign, Token, Ident, Text}
-use Rattle.c_grammar.specs.Reader.{Fault, Unexpected, Out, Got, Stop, next, one_of, one_at, seq, map_out, mapped, alt, either, begins}
+use Rattle.c_grammar.specs.Token.{Kind, IsName, Token, Ident, Text}
+use Rattle.c_grammar.specs.Reader.{Fault, Unexpected, Out, Got, Stop, next, one_of, one_at, seq, map_out, mapped, either, begins}
 use Rattle.c_grammar.specs.Read.{ident_of, text_of}
-use Rattle.c_grammar.specs.File as g
 use Rattle.c_grammar.specs.ReadFile as read
 use Rattle.c_cursor.specs.Seen.{spot_at}
 use Rattle.c_stmt.proofs.Outs.{map_map, map_same, seq_is, alt_is}
-use Rattle.c_parse.specs.Directives.{Parts, included, defined, header_at, replacement_at, named_at, directive_tail_at}
+use Rattle.c_parse.specs.Directives.{Parts, included, defined, directive_tail_at}
 
 -- ---- what stands on a line
 

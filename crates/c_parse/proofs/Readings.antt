@@ -1,9 +1,9 @@
 -- Reading a whole file, step by step.
-use Rattle.std.proofs.Common.{◌≡◌, ◌≢◌, ℕ, zero, suc, eqb, ltb, Bool, true, false, not, ◌&&◌, List, [], ◌∷◌, drop, Option, Some, None, refl, sym, ap, ◌∙◌, arith}
+use Rattle.std.proofs.Common.{◌≡◌, ◌≢◌, List, [], ◌∷◌, Some, refl, ap, ◌∙◌, arith}
 use Rattle.c_grammar.specs.declared.word.Word.TheVariants as w
 use Rattle.c_grammar.specs.declared.sign.Sign.TheVariants as s
 use Rattle.c_grammar.specs.Token.{Kind, IsWord, IsSign, Token}
-use Rattle.c_grammar.specs.Reader.{Fault, Unexpected, Out, Got, Stop, ended, begins, size, many}
+use Rattle.c_grammar.specs.Reader.{Fault, Unexpected, Got, Stop, ended, begins, size, many}
 use Rattle.c_grammar.specs.File.{File}
 use Rattle.c_grammar.specs.ReadFile.{begins_top, begins_top_kind, checked, top_at, read_file}
 use Rattle.c_cursor.specs.Seen.{look_of, look_at}

@@ -1,18 +1,18 @@
 -- Declarations and functions are read as the grammar's reader reads them.
-use Rattle.std.proofs.Common.{◌≡◌, ℕ, Bool, true, false, List, [], ◌∷◌, Option, Some, None, refl, sym, ap, ◌∙◌, inl, inr, ◌⊎◌}
+use Rattle.std.proofs.Common.{◌≡◌, Bool, true, false, List, refl, sym, ap, ◌∙◌, inl, inr}
 use Rattle.cfix_base.specs.declared.Spot.{Spot}
 use Rattle.c_grammar.specs.declared.word.Word.TheVariants as w
 use Rattle.c_grammar.specs.declared.sign.Sign.TheVariants as s
 use Rattle.c_grammar.specs.Token.{Token, Ident}
-use Rattle.c_grammar.specs.Reader.{Out, next, seq, seq_dep, map_out, mapped, alt, either, begins}
+use Rattle.c_grammar.specs.Reader.{seq, seq_dep, map_out, alt, either, begins}
 use Rattle.c_grammar.specs.Read.{is_word, is_sign, read_word, read_sign, read_ident}
 use Rattle.c_grammar.specs.ReadSimple.{is_paren}
 use Rattle.c_grammar.specs.File as g
 use Rattle.c_grammar.specs.ReadFile as read
 use Rattle.c_stmt.proofs.Outs.{map_map, map_same, next_same, either_same, seq_is, dep_is, alt_is}
 use Rattle.c_parse.specs.Globals.{holds_from, mutexes_from, read_holds_at, read_mutexes_at}
-use Rattle.c_parse.specs.Tops.{plain_top, with_head, ints_top, with_ints, thread_top, with_thread, void_from, int_behind, int_from, with_globals, last_from, behind_qualifiers, declared_at}
-use Rattle.c_parse.specs.Directives.{directive_from, directive_tail_at, directive_at}
+use Rattle.c_parse.specs.Tops.{plain_top, ints_top, void_from, int_from, with_globals, behind_qualifiers, declared_at}
+use Rattle.c_parse.specs.Directives.{directive_from, directive_at}
 use Rattle.c_parse.proofs.Directives.{to_parts, tail_is}
 
 module _ (q : read.Qualifiers) where

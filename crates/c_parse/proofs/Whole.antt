@@ -1,5 +1,5 @@
 -- What the answer says, from what the grammar's reader of files answers.
-use Rattle.std.proofs.Common.{◌≡◌, ◌⊎◌, List, [], Result, Ok, Err, refl, sym, ap, ◌∙◌, inl, inr}
+use Rattle.std.proofs.Common.{◌≡◌, List, [], Result, Ok, Err, refl, sym, ap, ◌∙◌, inl, inr}
 use Rattle.std.specs.Prelude.{IfOk, IfErr}
 use Rattle.c_lex.specs.Lexed.{Lexed}
 use Rattle.c_grammar.specs.Token.{Token}

@@ -1,5 +1,5 @@
 -- The readers of heads that the code has besides those of the grammar.
-use Rattle.std.specs.Prelude.{List, ◌⊎◌}
+use Rattle.std.specs.Prelude.{List}
 use Rattle.std.proofs.Common.{inl, inr}
 use Rattle.cfix_base.specs.declared.Spot.{Spot}
 use Rattle.c_grammar.specs.declared.sign.Sign.TheVariants as s

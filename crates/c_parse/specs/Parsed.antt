@@ -1,5 +1,5 @@
 -- What `parse` answers.
-use Rattle.std.specs.Prelude.{Bool, true, false, Option, Some, None, ◌≡◌, ◌⊎◌, ℕ, List, [], map, Result, Ok, Err}
+use Rattle.std.specs.Prelude.{Bool, true, false, Option, Some, ◌≡◌, ◌⊎◌, ℕ, List, [], map, Result, Ok, Err}
 use Rattle.cfix_base.specs.declared.Spot.{Spot}
 use Rattle.c_lex.specs.Lexed.{Lexed, Lexes}
 use Rattle.c_grammar.specs.Token.{Token}

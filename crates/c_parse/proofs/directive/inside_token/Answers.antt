@@ -1,4 +1,4 @@
-use Rattle.std.proofs.Common.{◌≡◌, Bool, true, false, drop, rules}
+use Rattle.std.proofs.Common.{◌≡◌, true, false, drop, rules}
 use Rattle.c_grammar.specs.Reader.{begins}
 use Rattle.c_grammar.specs.ReadFile.{is_inside}
 use Rattle.c_parse.proofs.Directives.{inside_more, inside_end}

@@ -1,4 +1,4 @@
-use Rattle.std.proofs.Common.{◌≡◌, eqb, Bool, true, false, drop, rules}
+use Rattle.std.proofs.Common.{◌≡◌, eqb, true, false, drop, rules}
 use Rattle.c_grammar.specs.Read.{numeral_of}
 use Rattle.c_cursor.specs.Seen.{spot_at}
 use Rattle.c_parse.proofs.Directives.{on, off}

@@ -1,4 +1,4 @@
-use Rattle.std.proofs.Common.{◌≡◌, ◌<◌, Bool, true, false, drop, map, arith}
+use Rattle.std.proofs.Common.{◌<◌, drop, map, arith}
 use Rattle.std.proofs.lemmas.List.{map_push}
 use Rattle.c_grammar.specs.Reader.{one_of, size}
 use Rattle.c_grammar.specs.ReadFile.{is_qualifier, qualifier_of}

@@ -1,4 +1,4 @@
-use Rattle.std.proofs.Common.{◌≡◌, Bool, true, false, drop, rules}
+use Rattle.std.proofs.Common.{◌≡◌, true, false, drop, rules}
 use Rattle.c_grammar.specs.declared.sign.Sign.TheVariants as s
 use Rattle.c_grammar.specs.Reader.{begins}
 use Rattle.c_grammar.specs.Read.{is_sign}
