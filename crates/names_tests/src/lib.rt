@@ -1,0 +1,14 @@
+//! The rules of names on whole texts: each test reads a text to its end, resolves its names, and
+//! compares what is told with what the rules say.
+#![tactic(auto)]
+
+#[cfg(test)]
+mod limits;
+#[cfg(test)]
+mod lines;
+#[cfg(test)]
+mod marked;
+#[cfg(test)]
+mod rows;
+#[cfg(test)]
+mod scopes;
