@@ -1,0 +1,18 @@
+//! Tests of binding and of critical regions on whole texts: a program and a report are read, bound, and
+//! what comes out is compared with what follows from the rules by hand.
+#![tactic(auto)]
+
+#[cfg(test)]
+mod binding;
+#[cfg(test)]
+mod paths;
+#[cfg(test)]
+mod positions;
+#[cfg(test)]
+mod reading;
+#[cfg(test)]
+mod shown;
+#[cfg(test)]
+mod sites;
+#[cfg(test)]
+mod stacks;
