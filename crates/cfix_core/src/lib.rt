@@ -11,8 +11,6 @@ mod reading;
 mod replay;
 mod show;
 mod stop;
-#[cfg(test)]
-mod tests;
 mod texts;
 mod top;
 mod words;

@@ -1,6 +1,7 @@
 //! Two threads that count up one variable.
 
-pub const CLASSIC: &[u8] = b"#include <pthread.h>
+pub fn classic() -> &'static [u8] {
+    b"#include <pthread.h>
 int count;
 void *worker(void *arg) {
     count++;
@@ -15,10 +16,12 @@ int main(void) {
     printf(\"%d\\n\", count);
     return 0;
 }
-";
+"
+}
 
 /// Its canonical text.
-pub const CLASSIC_SHOWN: &[u8] = b"#include <pthread.h>
+pub fn classic_shown() -> &'static [u8] {
+    b"#include <pthread.h>
 #include <stdio.h>
 
 int count = 0;
@@ -40,10 +43,12 @@ int main(void) {
     printf(\"%d\\n\", count);
     return 0;
 }
-";
+"
+}
 
 /// The same with the operations of its repair.
-pub const CLASSIC_PATCHED: &[u8] = b"#include <pthread.h>
+pub fn classic_patched() -> &'static [u8] {
+    b"#include <pthread.h>
 #include <stdio.h>
 #include \"cfix.h\"
 
@@ -68,4 +73,5 @@ int main(void) {
     printf(\"%d\\n\", count);
     return 0;
 }
-";
+"
+}

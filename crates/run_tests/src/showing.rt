@@ -1,12 +1,13 @@
-use super::classic::{CLASSIC, CLASSIC_PATCHED, CLASSIC_SHOWN};
-use super::operations::OPERATIONS;
-use super::ring::{RING, RING_SHOWN};
-use super::scene::{play, show};
+use crate::classic::{classic, classic_patched, classic_shown};
+use crate::operations::operations;
+use crate::ring::{ring, ring_shown};
+use crate::scene::{play, show};
 use std::alloc::{AllocError, Global};
 use std::test::Fail;
 
 /// Empty lists and empty statements, branches in branches, and declarations of several names.
-const LISTS: &[u8] = b"volatile int a = -3, b[2]; pthread_mutex_t m;
+fn lists() -> &'static [u8] {
+    b"volatile int a = -3, b[2]; pthread_mutex_t m;
 void f(void); static void f(void) { }
 int main(void) {
     int i, j = 1; ; { } if (i) { } else { }
@@ -15,9 +16,11 @@ int main(void) {
     for (;;) break;
     for (++i; i; ) f();
 }
-";
+"
+}
 
-const LISTS_SHOWN: &[u8] = b"#include <pthread.h>
+fn lists_shown() -> &'static [u8] {
+    b"#include <pthread.h>
 #include <stdio.h>
 
 int a = -3;
@@ -59,13 +62,17 @@ int main(void) {
         }
     }
 }
-";
+"
+}
 
-const UNARY: &[u8] = b"int a; int v[4]; int main(void) { a = - -a; a = !(!a); a = -!(a); a = !-(a);
+fn unary() -> &'static [u8] {
+    b"int a; int v[4]; int main(void) { a = - -a; a = !(!a); a = -!(a); a = !-(a);
     a = -(a + 1); a = !(a == 1); a = -(-(-(2))); a = v[v[a + 1] * (2)] - - 1; v[(a)] += 1; }
-";
+"
+}
 
-const UNARY_SHOWN: &[u8] = b"#include <pthread.h>
+fn unary_shown() -> &'static [u8] {
+    b"#include <pthread.h>
 #include <stdio.h>
 
 int a = 0;
@@ -82,16 +89,17 @@ int main(void) {
     a = v[v[a + 1] * 2] - -1;
     v[a] += 1;
 }
-";
+"
+}
 
 #[test]
 fn sources_are_shown(rt: HostRuntime) {
     let alloc = rt.alloc();
     for (source, shown) in [
-        (CLASSIC, CLASSIC_SHOWN),
-        (RING, RING_SHOWN),
-        (LISTS, LISTS_SHOWN),
-        (UNARY, UNARY_SHOWN),
+        (classic(), classic_shown()),
+        (ring(), ring_shown()),
+        (lists(), lists_shown()),
+        (unary(), unary_shown()),
     ] {
         let ended = play(alloc, &show(source)).expect(&rt, "memory");
         assert_eq!(rt; ended.note.taken(), b"".as_slice());
@@ -105,11 +113,11 @@ fn sources_are_shown(rt: HostRuntime) {
 fn a_canonical_text_is_shown_unchanged(rt: HostRuntime) {
     let alloc = rt.alloc();
     for text in [
-        CLASSIC_PATCHED,
-        OPERATIONS,
-        RING_SHOWN,
-        LISTS_SHOWN,
-        UNARY_SHOWN,
+        classic_patched(),
+        operations(),
+        ring_shown(),
+        lists_shown(),
+        unary_shown(),
     ] {
         let ended = play(alloc, &show(text)).expect(&rt, "memory");
         assert_eq!(rt; ended.note.taken(), b"".as_slice());
@@ -171,7 +179,9 @@ fn nested(
     Ok(text)
 }
 
-const HEAD: &[u8] = b"#include <pthread.h>\n#include <stdio.h>\n\nint a = 0;\n\n";
+fn head() -> &'static [u8] {
+    b"#include <pthread.h>\n#include <stdio.h>\n\nint a = 0;\n\n"
+}
 
 #[test]
 fn parentheses_stand_where_the_operators_need_them(rt: HostRuntime) -> Result<(), Fail> {
@@ -181,7 +191,7 @@ fn parentheses_stand_where_the_operators_need_them(rt: HostRuntime) -> Result<()
             for right in [false, true] {
                 let marked = under < binds || (right && under == binds);
                 let source = nested(alloc, b"int a;\n", outer, inner, right, true)?;
-                let shown = nested(alloc, HEAD, outer, inner, right, marked)?;
+                let shown = nested(alloc, head(), outer, inner, right, marked)?;
                 let ended = play(alloc, &show(&source)).expect(&rt, "memory");
                 assert_eq!(rt; ended.out.taken(), shown.as_slice());
                 assert_eq!(rt; ended.status, 0);
@@ -273,8 +283,9 @@ const BODY_ENDS: usize = 1509;
 #[test]
 fn a_source_may_be_cut_anywhere(rt: HostRuntime) {
     let alloc = rt.alloc();
-    for size in 0..RING.len() {
-        let ended = play(alloc, &show(&RING[..size])).expect(&rt, "memory");
+    let whole = ring();
+    for size in 0..whole.len() {
+        let ended = play(alloc, &show(&whole[..size])).expect(&rt, "memory");
         assert!(rt; ended.status == 0 || ended.status == 6);
         if (BODY_BEGINS..BODY_ENDS).contains(&size) {
             assert_eq!(rt; ended.status, 6);

@@ -1,5 +1,5 @@
-use super::counter::{COUNTER, COUNTER_PATCHED, COUNTER_REPORT};
-use super::scene::{Ended, Scene, patch, play, replay, show};
+use crate::counter::{COUNTER, COUNTER_PATCHED, COUNTER_REPORT};
+use crate::scene::{Ended, Scene, patch, play, replay, show};
 use cfix_base::NoMemory;
 use std::alloc::{AllocError, Global};
 use std::test::Fail;

@@ -1,5 +1,5 @@
-use crate::run;
 use cfix_base::{List, NoMemory};
+use cfix_core::run;
 use cfix_outside::{FailPlan, MemoryShelf, MemorySink};
 use std::alloc::Global;
 

@@ -1,5 +1,5 @@
-use super::counter::{COUNTER, COUNTER_PATCHED, COUNTER_REPORT};
-use super::scene::{patch, play};
+use crate::counter::{COUNTER, COUNTER_PATCHED, COUNTER_REPORT};
+use crate::scene::{patch, play};
 
 /// The program of the second example, with its statements at lines 4 to 6.
 const THREE: &[u8] = b"int a;\nint b;\nint main(void) {\na++;\nb = 1;\na = 2;\n}\n";

@@ -1,5 +1,5 @@
-use super::counter::{COUNTER, COUNTER_PATCHED, COUNTER_REPORT};
-use super::scene::{patch, play};
+use crate::counter::{COUNTER, COUNTER_PATCHED, COUNTER_REPORT};
+use crate::scene::{patch, play};
 use std::alloc::{AllocError, Global};
 use std::test::Fail;
 

@@ -1,5 +1,5 @@
-use super::counter::{COUNTER, COUNTER_REPORT};
-use super::scene::{Scene, patch, play};
+use crate::counter::{COUNTER, COUNTER_REPORT};
+use crate::scene::{Scene, patch, play};
 
 #[test]
 fn other_words_are_no_command(rt: HostRuntime) {

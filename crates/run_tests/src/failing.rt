@@ -1,6 +1,6 @@
-use super::classic::{CLASSIC, CLASSIC_SHOWN};
-use super::counter::{COUNTER, COUNTER_PATCHED, COUNTER_REPORT};
-use super::scene::{Scene, patch, play, show};
+use crate::classic::{classic, classic_shown};
+use crate::counter::{COUNTER, COUNTER_PATCHED, COUNTER_REPORT};
+use crate::scene::{Scene, patch, play, show};
 
 /// The first example, with the calls of the shelf, of the output and of the notes that fail.
 #[test]
@@ -57,6 +57,12 @@ fn a_missing_file_cannot_be_read(rt: HostRuntime) {
     );
 }
 
+/// The first bytes of the shown source, so many.
+fn front(size: usize) -> &'static [u8] {
+    let shown = classic_shown();
+    &shown[..size.min(shown.len())]
+}
+
 #[test]
 fn each_fault_of_a_shown_source_has_its_line(rt: HostRuntime) {
     let alloc = rt.alloc();
@@ -78,17 +84,17 @@ fn each_fault_of_a_shown_source_has_its_line(rt: HostRuntime) {
             &[(1, 10)],
             none,
             5,
-            &CLASSIC_SHOWN[..266],
+            front(266),
             b"cfix: cannot write\n",
         ),
-        (none, &[(1, 10)], first, 5, &CLASSIC_SHOWN[..266], b""),
-        (none, none, first, 0, CLASSIC_SHOWN, b""),
+        (none, &[(1, 10)], first, 5, front(266), b""),
+        (none, none, first, 0, classic_shown(), b""),
     ] {
         let scene = Scene {
             reads,
             puts,
             notes,
-            ..show(CLASSIC)
+            ..show(classic())
         };
         let ended = play(alloc, &scene).expect(&rt, "memory");
         assert_eq!(rt; ended.status, status);

@@ -1,6 +1,7 @@
 //! A ring that one producer fills and two consumers empty.
 
-pub const RING: &[u8] = b"#include <pthread.h>
+pub fn ring() -> &'static [u8] {
+    b"#include <pthread.h>
 #include <stdio.h>
 #define SLOTS 4
 #define ITEMS 6
@@ -72,10 +73,12 @@ int main(void) {
     printf(\"served %d\\n\", served);
     return 0;
 }
-";
+"
+}
 
 /// Its canonical text.
-pub const RING_SHOWN: &[u8] = b"#include <pthread.h>
+pub fn ring_shown() -> &'static [u8] {
+    b"#include <pthread.h>
 #include <stdio.h>
 
 int ring[4];
@@ -166,4 +169,5 @@ int main(void) {
     printf(\"served %d\\n\", served);
     return 0;
 }
-";
+"
+}

@@ -1,10 +1,12 @@
-use super::classic::CLASSIC_PATCHED;
-use super::scene::{Scene, play, replay};
+use crate::classic::classic_patched;
+use crate::scene::{Ended, Scene, play, replay};
+use cfix_base::NoMemory;
 use std::alloc::{AllocError, Global};
 use std::test::Fail;
 
 /// The trace of the classic example with its operations up to both threads' beginnings.
-const TIMEOUT: &[u8] = b"1 0 begin 2
+fn timeout() -> &'static [u8] {
+    b"1 0 begin 2
 2 0 silent
 3 0 silent
 4 0 begin 3
@@ -21,10 +23,12 @@ const TIMEOUT: &[u8] = b"1 0 begin 2
 15 1 enter 0
 16 2 enter 0 missed
 open
-";
+"
+}
 
 /// Its first fourteen lines.
-const CREATED: &[u8] = b"1 0 begin 2
+fn created() -> &'static [u8] {
+    b"1 0 begin 2
 2 0 silent
 3 0 silent
 4 0 begin 3
@@ -38,11 +42,15 @@ const CREATED: &[u8] = b"1 0 begin 2
 12 0 silent
 13 0 create 2
 14 0 silent
-";
+"
+}
 
-const OVERFLOW: &[u8] = b"int x; int main(void) { x = 2147483647; x++; return 0; }";
+fn overflow() -> &'static [u8] {
+    b"int x; int main(void) { x = 2147483647; x++; return 0; }"
+}
 
-const OVERFLOWN: &[u8] = b"1 0 begin 0
+fn overflown() -> &'static [u8] {
+    b"1 0 begin 0
 2 0 silent
 3 0 write x 2147483647
 4 0 silent
@@ -51,9 +59,11 @@ const OVERFLOWN: &[u8] = b"1 0 begin 0
 7 0 silent
 8 0 trap
 trap overflow
-";
+"
+}
 
-const OVERFLOW_STEPS: &[u8] = b"1 0 begin 0
+fn overflow_steps() -> &'static [u8] {
+    b"1 0 begin 0
 2 0 silent
 3 0 write x 2147483647
 4 0 silent
@@ -61,10 +71,12 @@ const OVERFLOW_STEPS: &[u8] = b"1 0 begin 0
 6 0 read x 2147483647
 7 0 silent
 8 0 trap
-";
+"
+}
 
 /// One thread sets a variable that main reads, with the operations of an order.
-const ORDER: &[u8] = b"#include <pthread.h>
+fn order() -> &'static [u8] {
+    b"#include <pthread.h>
 #include <stdio.h>
 #define CFIX_START_0 1
 #include \"cfix.h\"
@@ -92,9 +104,11 @@ int main(void) {
     printf(\"%d\\n\", ready);
     return 0;
 }
-";
+"
+}
 
-const ORDER_DONE: &[u8] = b"1 0 begin 3
+fn order_done() -> &'static [u8] {
+    b"1 0 begin 3
 2 0 silent
 3 0 silent
 4 0 add 0
@@ -109,9 +123,11 @@ const ORDER_DONE: &[u8] = b"1 0 begin 3
 13 1 done 0
 14 0 wait 0
 open
-";
+"
+}
 
-const ORDER_MISSED: &[u8] = b"1 0 begin 3
+fn order_missed() -> &'static [u8] {
+    b"1 0 begin 3
 2 0 silent
 3 0 silent
 4 0 add 0
@@ -122,10 +138,12 @@ const ORDER_MISSED: &[u8] = b"1 0 begin 3
 9 0 done 0
 10 0 wait 0 missed
 open
-";
+"
+}
 
 /// Input, output, a call and an array, to the end of main.
-const TALK: &[u8] = b"int a[3];
+fn talk() -> &'static [u8] {
+    b"int a[3];
 int twice(int n) { return n + n; }
 int main(void) {
     int i;
@@ -133,9 +151,11 @@ int main(void) {
     a[i] = twice(4);
     printf(\"a \\\"%d\\\"\\n\", a[i]);
 }
-";
+"
+}
 
-const TALKED: &[u8] = b"1 0 begin 1
+fn talked() -> &'static [u8] {
+    b"1 0 begin 1
 2 0 silent
 3 0 silent
 4 0 begin 2
@@ -161,10 +181,12 @@ const TALKED: &[u8] = b"1 0 begin 1
 24 0 silent
 25 0 exit
 end
-";
+"
+}
 
 /// Main takes a mutex and waits for a thread that waits for the mutex.
-const STUCK: &[u8] = b"pthread_mutex_t m;
+fn stuck() -> &'static [u8] {
+    b"pthread_mutex_t m;
 void *waiter(void *arg) { pthread_mutex_lock(&m); return NULL; }
 int main(void) {
     pthread_t t;
@@ -172,9 +194,11 @@ int main(void) {
     pthread_create(&t, NULL, waiter, NULL);
     pthread_join(t, NULL);
 }
-";
+"
+}
 
-const STUCK_STEPS: &[u8] = b"1 0 begin 2
+fn stuck_steps() -> &'static [u8] {
+    b"1 0 begin 2
 2 0 silent
 3 0 silent
 4 0 begin 3
@@ -187,7 +211,8 @@ const STUCK_STEPS: &[u8] = b"1 0 begin 2
 11 0 begin 5
 12 1 begin 0
 stuck
-";
+"
+}
 
 /// So many entries of a thread, and an end.
 fn entries(alloc: Global, parts: &[(&[u8], usize)]) -> Result<Vec<u8>, AllocError> {
@@ -208,12 +233,17 @@ fn schedules_are_replayed(rt: HostRuntime) -> Result<(), Fail> {
     let one = b"1".as_slice();
     for (source, input, parts, out) in [
         (
-            CLASSIC_PATCHED,
+            classic_patched(),
             b"".as_slice(),
             [(zero, 14usize), (one, 1), (b"2!".as_slice(), 1)],
-            TIMEOUT,
+            timeout(),
         ),
-        (OVERFLOW, b"", [(zero, 8), (zero, 0), (zero, 0)], OVERFLOWN),
+        (
+            overflow(),
+            b"",
+            [(zero, 8), (zero, 0), (zero, 0)],
+            overflown(),
+        ),
         (
             b"int main(void) { return 0; }",
             b"",
@@ -226,10 +256,25 @@ fn schedules_are_replayed(rt: HostRuntime) -> Result<(), Fail> {
             [(zero, 0), (zero, 0), (zero, 0)],
             b"open\n",
         ),
-        (ORDER, b"", [(zero, 9), (one, 4), (zero, 1)], ORDER_DONE),
-        (ORDER, b"", [(zero, 9), (b"0!", 1), (zero, 0)], ORDER_MISSED),
-        (TALK, b" +2\n", [(zero, 25), (zero, 0), (zero, 0)], TALKED),
-        (STUCK, b"", [(zero, 11), (one, 1), (zero, 0)], STUCK_STEPS),
+        (order(), b"", [(zero, 9), (one, 4), (zero, 1)], order_done()),
+        (
+            order(),
+            b"",
+            [(zero, 9), (b"0!", 1), (zero, 0)],
+            order_missed(),
+        ),
+        (
+            talk(),
+            b" +2\n",
+            [(zero, 25), (zero, 0), (zero, 0)],
+            talked(),
+        ),
+        (
+            stuck(),
+            b"",
+            [(zero, 11), (one, 1), (zero, 0)],
+            stuck_steps(),
+        ),
     ] {
         let schedule = entries(alloc, &parts)?;
         let ended = play(alloc, &replay(source, input, &schedule)).expect(&rt, "memory");
@@ -246,63 +291,63 @@ fn refused_replays_are_told(rt: HostRuntime) {
     let nothing = b"".as_slice();
     for (source, input, schedule, out, note) in [
         (
-            CLASSIC_PATCHED,
+            classic_patched(),
             nothing,
             b"0\n0\n0\n0\n0\n0\n0\n0\n0\n0\n0\n0\n0\n0\n2!".as_slice(),
-            CREATED,
+            created(),
             b"cfix: entry 15 is not enabled\n".as_slice(),
         ),
         (
-            OVERFLOW,
+            overflow(),
             b"",
             b"0\n0\n0\n0\n0\n0\n0\n0\n0\n",
-            OVERFLOW_STEPS,
+            overflow_steps(),
             b"cfix: entry 9 is not enabled\n",
         ),
         (
-            OVERFLOW,
+            overflow(),
             b"",
             b"0\nx\n",
             b"",
             b"cfix: schedule line 2: bad entry\n",
         ),
         (
-            OVERFLOW,
+            overflow(),
             b"",
             b"0\n\n0\n",
             b"",
             b"cfix: schedule line 2: bad entry\n",
         ),
         (
-            OVERFLOW,
+            overflow(),
             b"",
             b"01",
             b"",
             b"cfix: schedule line 1: bad entry\n",
         ),
         (
-            OVERFLOW,
+            overflow(),
             b"5 -6 a",
             b"",
             b"",
             b"cfix: input byte 5: bad number\n",
         ),
         (
-            OVERFLOW,
+            overflow(),
             b"5 -6 a",
             b"x",
             b"",
             b"cfix: input byte 5: bad number\n",
         ),
         (
-            OVERFLOW,
+            overflow(),
             b"",
             b"7\n",
             b"",
             b"cfix: entry 1 is not enabled\n",
         ),
         (
-            OVERFLOW,
+            overflow(),
             b"",
             b"0!\n",
             b"",
@@ -341,30 +386,49 @@ fn starts(alloc: Global, text: &[u8]) -> Result<Vec<usize>, AllocError> {
     Ok(starts)
 }
 
+fn eight() -> &'static [u8] {
+    b"0\n0\n0\n0\n0\n0\n0\n0\n"
+}
+
+fn sixteen() -> &'static [u8] {
+    b"0\n0\n0\n0\n0\n0\n0\n0\n0\n0\n0\n0\n0\n0\n1\n2!\n"
+}
+
+/// The replay in which this put fails after so many bytes.
+fn cut(
+    alloc: Global,
+    source: &[u8],
+    schedule: &[u8],
+    call: u32,
+    more: u32,
+) -> Result<Ended, NoMemory> {
+    let scene = Scene {
+        puts: &[(call, more)],
+        ..replay(source, b"", schedule)
+    };
+    play(alloc, &scene)
+}
+
 /// Where a put fails, the lines before it stand in the output, and some bytes of its own.
 #[test]
 fn each_put_may_fail(rt: HostRuntime) -> Result<(), Fail> {
     let alloc = rt.alloc();
-    let eight = b"0\n0\n0\n0\n0\n0\n0\n0\n".as_slice();
-    let sixteen = b"0\n0\n0\n0\n0\n0\n0\n0\n0\n0\n0\n0\n0\n0\n1\n2!\n";
     for (source, schedule, out, lines) in [
-        (OVERFLOW, eight, OVERFLOWN, 9usize),
-        (CLASSIC_PATCHED, sixteen, TIMEOUT, 17),
+        (overflow(), eight(), overflown(), 9usize),
+        (classic_patched(), sixteen(), timeout(), 17),
     ] {
         let starts = starts(alloc, out)?;
         assert_eq!(rt; starts.len(), lines);
-        for (call, start) in starts.iter().enumerate() {
-            for more in [0usize, 1] {
-                let scene = Scene {
-                    puts: &[(call as u32, more as u32)],
-                    ..replay(source, b"", schedule)
-                };
-                let ended = play(alloc, &scene).expect(&rt, "memory");
-                let end = (*start + more).min(out.len());
+        let mut call = 0u32;
+        for start in starts.iter() {
+            for more in [0u32, 1] {
+                let end = start.saturating_add(more as usize).min(out.len());
+                let ended = cut(alloc, source, schedule, call, more).expect(&rt, "memory");
                 assert_eq!(rt; ended.note.taken(), b"cfix: cannot write\n".as_slice());
                 assert_eq!(rt; ended.out.taken(), &out[..end]);
                 assert_eq!(rt; ended.status, 5);
             }
+            call = call.saturating_add(1);
         }
     }
     Ok(())
@@ -376,7 +440,7 @@ fn a_put_fails_before_an_entry(rt: HostRuntime) {
     let alloc = rt.alloc();
     let scene = Scene {
         puts: &[(1, 3)],
-        ..replay(OVERFLOW, b"", b"0\n0\n7\n")
+        ..replay(overflow(), b"", b"0\n0\n7\n")
     };
     let ended = play(alloc, &scene).expect(&rt, "memory");
     assert_eq!(rt; ended.note.taken(), b"cfix: cannot write\n".as_slice());
@@ -395,7 +459,7 @@ fn each_read_of_a_replay_may_fail(rt: HostRuntime) {
     ] {
         let scene = Scene {
             reads: &[(call, 0)],
-            ..replay(OVERFLOW, b"", b"0\n")
+            ..replay(overflow(), b"", b"0\n")
         };
         let ended = play(alloc, &scene).expect(&rt, "memory");
         assert_eq!(rt; ended.note.taken(), note);

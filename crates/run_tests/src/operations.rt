@@ -1,7 +1,8 @@
 //! An operation at each kind of place.
 
 /// A canonical text.
-pub const OPERATIONS: &[u8] = b"#include <pthread.h>
+pub fn operations() -> &'static [u8] {
+    b"#include <pthread.h>
 #include <stdio.h>
 #define CFIX_START_0 1
 #define CFIX_START_3 1
@@ -72,4 +73,5 @@ int main(void) {
     cfix_wait(0);
     return 0;
 }
-";
+"
+}
