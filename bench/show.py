@@ -2,7 +2,8 @@
 """Measures `cfix show` on sources of 10, 100 and 1,000 thousand tokens: show.py [ROUNDS].
 
 Of each source it prints the tokens, the bytes read and written, the seconds of the fastest of so many
-rounds (3 if not said), the same for a million tokens, and the most memory that was in use."""
+rounds (3 if not said), the least seconds of processor time and the same for a million tokens, and the
+most memory that was in use, of which some 14 MiB are this script's own, before the command begins."""
 
 import os
 import subprocess
@@ -15,7 +16,7 @@ SIZES = [10_000, 100_000, 1_000_000]
 
 
 def show(file, written):
-    """Runs the command once: the seconds that it took and the kibibytes that it used at most."""
+    """Runs the command once: its seconds, its seconds of processor time, and its most kibibytes."""
     with open(written, "wb") as out:
         began = time.monotonic()
         started = subprocess.Popen([f"{ROOT}/cfix", "show", file], stdin=subprocess.DEVNULL, stdout=out)
@@ -24,7 +25,7 @@ def show(file, written):
     started.returncode = os.waitstatus_to_exitcode(status)
     if started.returncode != 0:
         sys.exit(f"show.py: cfix show ended with status {started.returncode}")
-    return took, used.ru_maxrss
+    return took, used.ru_utime + used.ru_stime, used.ru_maxrss
 
 
 def measure(room, count, rounds):
@@ -33,10 +34,10 @@ def measure(room, count, rounds):
     with open(file, "wb") as out:
         subprocess.run([sys.executable, f"{ROOT}/bench/make_source.py", str(count)], stdout=out, check=True)
     runs = [show(file, written) for _ in range(rounds)]
-    seconds = min(took for took, _ in runs)
-    memory = max(most for _, most in runs) / 1024
+    seconds, processor = min(run[0] for run in runs), min(run[1] for run in runs)
+    memory = max(run[2] for run in runs) / 1024
     sizes = f"{count:>9} {os.path.getsize(file):>9} {os.path.getsize(written):>9}"
-    return f"{sizes} {seconds:>9.3f} {seconds * 1_000_000 / count:>9.2f} {memory:>9.1f}"
+    return f"{sizes} {seconds:>9.3f} {processor:>9.3f} {processor * 1_000_000 / count:>9.2f} {memory:>9.1f}"
 
 
 def main():
@@ -45,7 +46,7 @@ def main():
     rounds = int(sys.argv[1]) if len(sys.argv) == 2 else 3
     with tempfile.TemporaryDirectory(prefix="cfix-show-") as room:
         measure(room, 1_000, 1)  # the program is built here, where it is missing
-        print("   tokens      read   written   seconds s/million       MiB")
+        print("   tokens      read   written   seconds processor s/million       MiB")
         for count in SIZES:
             print(measure(room, count, rounds), flush=True)
 
