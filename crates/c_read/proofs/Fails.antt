@@ -9,8 +9,7 @@ use Rattle.c_lex.specs.declared.token.Kind.TheVariants as lexed_kind
 use Rattle.c_lex.specs.declared.token.Token as t
 use Rattle.c_lex.specs.Faults.{IsCaused}
 use Rattle.c_lex.specs.Lexed.{Lexed, Lexes}
-use Rattle.c_grammar.specs.File.{File, file_marks, is_file}
-use Rattle.c_grammar.specs.Token as g
+use Rattle.c_grammar.specs.File.{file_marks, is_file}
 use Rattle.c_grammar.specs.Verdict.{IsRead}
 use Rattle.c_cursor.specs.Seen.{kind_of, seen}
 use Rattle.c_raw.specs.declared.file.Raw.{Raw}

@@ -1,5 +1,5 @@
 -- A text is read as one source, or refused for one flaw, and not both.
-use Rattle.std.proofs.Common.{◌≡◌, ◌⊎◌, inl, inr, ℕ, List, [], Option, Some, None, Result, Ok, Err, map, refl, subst, ap, sym, ◌∙◌}
+use Rattle.std.proofs.Common.{◌≡◌, ◌⊎◌, inl, inr, ℕ, List, [], Option, Some, None, Result, Ok, Err, refl, subst, ap, sym, ◌∙◌}
 use Rattle.std.specs.Prelude.{IfOk, IfErr}
 use Rattle.c_lex.specs.Faults.{spot_behind}
 use Rattle.c_lex.specs.Lexed.{Lexed, Lexes}
@@ -25,7 +25,7 @@ use Rattle.c_read.specs.declared.flaw.FlawKind.TheVariants as flaw_kind
 use Rattle.c_read.specs.declared.flaw.ReadFault.{ReadFault}
 use Rattle.c_read.specs.declared.flaw.ReadFault.TheVariants.{NoMemory, Flawed}
 use Rattle.c_read.specs.Flaws.{flaw, token_flaw, grammar_flaw, name_flaw}
-use Rattle.c_read.specs.Reading.{Reads, HasBadToken, BreaksGrammar, HasBadGrammar, BreaksNames, HasBadName, IsFlawed, FailsBy}
+use Rattle.c_read.specs.Reading.{Reads, HasBadToken, BreaksGrammar, HasBadGrammar, HasBadName, IsFlawed, FailsBy}
 use Rattle.c_read.proofs.Fails.{same_tokens}
 
 same_some : {X : Type 0} (o : Option X) (a b : X) → o ≡ Some a → o ≡ Some b → a ≡ b

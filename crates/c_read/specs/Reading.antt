@@ -1,5 +1,5 @@
 -- What a source text is read as, and why it is refused: its tokens come first, then its grammar, then its names.
-use Rattle.std.specs.Prelude.{◌≡◌, ◌⊎◌, ℕ, List, Option, Some, None}
+use Rattle.std.specs.Prelude.{◌≡◌, ◌⊎◌, ℕ, List, Some, None}
 use Rattle.cfix_base.specs.declared.limits.TheConstants.{MAX_DEPTH}
 use Rattle.c_lex.specs.declared.fault.LexFault.{LexFault}
 use Rattle.c_lex.specs.Faults.{IsFirstFault, spot_behind}
