@@ -7,3 +7,4 @@ pub mod Turns
 pub mod Joins
 pub mod Turnings
 pub mod Returns
+pub mod CountLaws

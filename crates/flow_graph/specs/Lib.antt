@@ -5,3 +5,4 @@ pub mod Regions
 pub mod Within
 pub mod Walks
 pub mod Links
+pub mod Counts

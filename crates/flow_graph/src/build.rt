@@ -1,11 +1,16 @@
-ghost use Rattle.std.specs.Prelude.{◌≡◌, ◌+◌, ◌<◌, ◌≤◌, ◌^◌, ◌++◌, OnOk, IfOk, length};
+ghost use Rattle.std.specs.Prelude.{◌≡◌, List, Some, ◌+◌, ◌<◌, ◌≤◌, ◌^◌, ◌++◌, OnOk, IfOk, length};
 ghost use Rattle.c_prog.specs.Nodes.{step_nodes};
 ghost use Rattle.flow_graph.specs.Flow.{flow, parts_of, size_of, along, first_of, followed_by, in_loop, jump_target, constant, is_zero, is_other, after_way, cond_ways, step_ways, loop_ways, body_ways, graph_of, graphs_of};
 ghost use Rattle.flow_graph.specs.Table.{table_ways, table_end};
+ghost use Rattle.flow_graph.specs.Counts.{counted, counts_of, Begins};
+ghost use Rattle.flow_graph.specs.declared.inner_sizes.InnerSizes.{InnerSizes};
 
 use crate::around::Around;
+use crate::counting::{count_all, whole};
+use crate::counts::Counts;
 use crate::graph::Flow;
-use crate::sizes::{function_size, functions_size, size, size_all, step_size};
+use crate::inner_sizes::InnerSizes;
+use crate::sizes::{function_size, functions_size, step_size};
 use crate::table::{Out, Side, Table, add};
 use c_prog::{Cond, Expr, Function, Jump, Program, Step, Stmt, node_count};
 use cfix_base::{FnId, List, NoMemory};
@@ -111,87 +116,114 @@ fn add_step(table: &mut Table, step: &Option<Step>, cond: u32) -> Result<(), NoM
 fn add_if(
     table: &mut Table,
     cond: &Cond,
-    counts: (u32, u32),
+    inside: InnerSizes,
     start: u32,
     follow: Option<u32>,
 ) -> Result<(), NoMemory>
-    requires fits { start + 1 + counts.0 + counts.1 < 2 ^ 32 }
-    ensures ways { OnOk result (table_ways table.new ≡ table_ways table.old ++ cond_ways (table_end table.old) cond.now (first_of counts.0 (start + 1) follow) (first_of counts.1 (start + 1 + counts.0) follow)) }
+    requires fits { start + 1 + inside.first + inside.second < 2 ^ 32 }
+    ensures ways { OnOk result (table_ways table.new ≡ table_ways table.old ++ cond_ways (table_end table.old) cond.now (first_of inside.first (start + 1) follow) (first_of inside.second (start + 1 + inside.first) follow)) }
     ensures last { OnOk result (table_end table.new ≡ table_end table.old + 1) }
     ensures first { OnOk result (table.new.first ≡ table.old.first) }
 {
     let first = start + 1;
-    let other = first + counts.0;
-    let on_true = first_of(counts.0, first, follow);
-    let on_false = first_of(counts.1, other, follow);
+    let other = first + inside.first;
+    let on_true = first_of(inside.first, first, follow);
+    let on_false = first_of(inside.second, other, follow);
     add_cond(table, cond, on_true, on_false)
 }
 
-#[cycle(build)]
+// Adds the condition and the step of a loop whose body has so many nodes.
 fn add_loop(
     table: &mut Table,
     cond: &Cond,
     step: &Option<Step>,
-    body: &[Stmt],
+    count: u32,
+    start: u32,
+    follow: Option<u32>,
+) -> Result<(), NoMemory>
+    requires fits { start + 1 + step_nodes step.now + count < 2 ^ 32 }
+    requires here { start ≡ table_end table.old }
+    ensures ways { OnOk result (table_ways table.new ≡ table_ways table.old ++ (cond_ways start cond.now (first_of count (start + 1 + step_nodes step.now) (Some (start + step_nodes step.now))) follow ++ step_ways step.now start)) }
+    ensures last { OnOk result (table_end table.new ≡ start + 1 + step_nodes step.now) }
+    ensures first { OnOk result (table.new.first ≡ table.old.first) }
+{
+    let again = start + step_size(step);
+    let on_true = first_of(count, again + 1, Some(again));
+    add_cond(table, cond, on_true, follow)?;
+    add_step(table, step, start)
+}
+
+// What is inside the statement was taken from the counts, which begin with what is inside those in it.
+#[cycle(build)]
+fn add_stmt(
+    table: &mut Table,
+    stmt: &Stmt,
+    inside: InnerSizes,
+    counts: &mut Counts,
     start: u32,
     around: Around,
 ) -> Result<(), NoMemory>
-    requires fits { start + 1 + step_nodes step.now + size_of (parts_of body.now) < 2 ^ 32 }
-    requires here { start ≡ table_end table.old }
-    ensures ways { OnOk result (table_ways table.new ≡ table_ways table.old ++ loop_ways cond.now step.now (parts_of body.now) start around) }
-    ensures last { OnOk result (table_end table.new ≡ start + 1 + step_nodes step.now + size_of (parts_of body.now)) }
-    ensures first { OnOk result (table.new.first ≡ table.old.first) }
-{
-    let count = step_size(step);
-    let again = start + count;
-    let first = start + 1 + count;
-    let on_true = first_of(size_all(body), first, Some(again));
-    add_cond(table, cond, on_true, around.follow)?;
-    add_step(table, step, start)?;
-    add_all(table, body, first, in_loop(again, around))
-}
-
-#[cycle(build)]
-fn add_stmt(table: &mut Table, stmt: &Stmt, start: u32, around: Around) -> Result<(), NoMemory>
     requires fits { start + (flow stmt.now).size < 2 ^ 32 }
     requires here { start ≡ table_end table.old }
+    requires own { inside ≡ (counted stmt.now).own }
+    requires told { Begins (counted stmt.now).within counts.old }
     ensures ways { OnOk result (table_ways table.new ≡ table_ways table.old ++ (flow stmt.now).ways start around) }
     ensures last { OnOk result (table_end table.new ≡ start + (flow stmt.now).size) }
     ensures first { OnOk result (table.new.first ≡ table.old.first) }
+    ensures rest { OnOk result ((rest : List InnerSizes) → counts.old ≡ (counted stmt.now).within ++ rest → counts.new ≡ rest) }
 {
     match stmt {
         Stmt::Simple { .. } => add_after(table, around.follow),
         Stmt::Jump { jump, .. } => add_after(table, jump_target(jump, around)),
         Stmt::If { cond, yes, no } => {
-            let count = size_all(yes.as_slice());
-            let counts = (count, size_all(no.as_slice()));
-            add_if(table, cond, counts, start, around.follow)?;
-            add_all(table, yes.as_slice(), start + 1, around)?;
-            add_all(table, no.as_slice(), start + 1 + count, around)
+            let (first, second) = (inside.first, inside.second);
+            add_if(table, cond, inside, start, around.follow)?;
+            add_all(table, yes.as_slice(), first, counts, start + 1, around)?;
+            let other = start + 1 + first;
+            add_all(table, no.as_slice(), second, counts, other, around)
         }
         Stmt::Loop { cond, step, body } => {
-            add_loop(table, cond, step, body.as_slice(), start, around)
+            let count = inside.first;
+            add_loop(table, cond, step, count, start, around.follow)?;
+            let again = start + step_size(step);
+            let around = in_loop(again, around);
+            add_all(table, body.as_slice(), count, counts, again + 1, around)
         }
-        Stmt::Block(body) => add_all(table, body.as_slice(), start, around),
+        Stmt::Block(body) => {
+            let count = inside.first;
+            add_all(table, body.as_slice(), count, counts, start, around)
+        }
     }
 }
 
+// The statements have `count` nodes, and the counts begin with what is inside them.
 #[cycle(build)]
-fn add_all(table: &mut Table, list: &[Stmt], start: u32, around: Around) -> Result<(), NoMemory>
+fn add_all(
+    table: &mut Table,
+    list: &[Stmt],
+    count: u32,
+    counts: &mut Counts,
+    start: u32,
+    around: Around,
+) -> Result<(), NoMemory>
     requires fits { start + size_of (parts_of list.now) < 2 ^ 32 }
     requires here { start ≡ table_end table.old }
+    requires own { count ≡ size_of (parts_of list.now) }
+    requires told { Begins (counts_of list.now) counts.old }
     ensures ways { OnOk result (table_ways table.new ≡ table_ways table.old ++ along (parts_of list.now) start around) }
     ensures last { OnOk result (table_end table.new ≡ start + size_of (parts_of list.now)) }
     ensures first { OnOk result (table.new.first ≡ table.old.first) }
+    ensures rest { OnOk result ((rest : List InnerSizes) → counts.old ≡ counts_of list.now ++ rest → counts.new ≡ rest) }
 {
     let mut at = start;
-    let mut left = size_all(list);
+    let mut left = count;
     for stmt in list {
-        let count = size(stmt);
+        let inside = counts.next();
+        let count = whole(stmt, inside);
         let next = at + count;
         left -= count;
         let follow = first_of(left, next, around.follow);
-        add_stmt(table, stmt, at, followed_by(follow, around))?;
+        add_stmt(table, stmt, inside, counts, at, followed_by(follow, around))?;
         at = next;
     }
     Ok(())
@@ -216,7 +248,11 @@ pub(crate) fn function_flow(
         on_break: None,
         on_continue: None,
     };
-    add_all(&mut table, function.body.as_slice(), first, around)?;
+    let body = function.body.as_slice();
+    let mut sizes = List::new(alloc);
+    let count = count_all(&mut sizes, body)?;
+    let mut counts = Counts::of(sizes);
+    add_all(&mut table, body, count, &mut counts, first, around)?;
     let flow = Flow::of(alloc, number, table, size)?;
     Ok(flow)
 }

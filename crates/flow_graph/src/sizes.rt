@@ -16,7 +16,7 @@ pub fn step_size(step: &Option<Step>) -> u32
 
 /// How many nodes a statement has.
 #[cycle(size)]
-pub fn size(stmt: &Stmt) -> u32
+fn size(stmt: &Stmt) -> u32
     requires { (flow stmt.now).size < 2 ^ 32 }
     ensures { result ≡ (flow stmt.now).size }
 {
@@ -30,7 +30,7 @@ pub fn size(stmt: &Stmt) -> u32
 
 /// How many nodes statements have, one after another.
 #[cycle(size)]
-pub fn size_all(list: &[Stmt]) -> u32
+fn size_all(list: &[Stmt]) -> u32
     requires { size_of (parts_of list.now) < 2 ^ 32 }
     ensures { result ≡ size_of (parts_of list.now) }
 {

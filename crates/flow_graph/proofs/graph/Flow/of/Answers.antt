@@ -1,6 +1,6 @@
-use Rattle.std.proofs.Common.{◌≡◌, map, length, arith, ap, ◌∙◌, subst, sym}
+use Rattle.std.proofs.Common.{◌≡◌, map, length, arith, ap, ◌∙◌, subst}
 use Rattle.std.specs.List.{Contains}
-use Rattle.flow_graph.specs.Links.{out_targets, listed, Turned}
+use Rattle.flow_graph.specs.Links.{out_targets, listed}
 use Rattle.flow_graph.specs.Table.{first_in}
 use Rattle.flow_graph.proofs.Returns.{listed_within}
 use Rattle.flow_graph.proofs.graph.Flow.of.Goals as goal
