@@ -1,1 +1,2 @@
 pub mod OwnPaths
+pub mod RegionEnds

@@ -3,4 +3,4 @@
 
 mod laws;
 
-pub use laws::a_function_has_its_own_paths;
+pub use laws::{a_function_has_its_own_paths, a_region_has_its_ends};
