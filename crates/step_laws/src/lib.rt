@@ -3,4 +3,6 @@
 
 mod laws;
 
-pub use laws::{control_goes_along_edges, frames_are_on_edges};
+pub use laws::{
+    control_goes_along_edges, frames_are_on_edges, runs_follow_each_other, threads_go_in_one_mode,
+};
