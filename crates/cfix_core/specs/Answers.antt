@@ -226,12 +226,13 @@ abbrev pub Ends : Stop → ℕ → Option Asked → Option (List ℕ) → Option
 Ends stop status words old new before now =
     (status ≡ 3) ⊎ (Told stop status words old new before now ⊎ CutBefore stop status)
 
--- a stop of this status, its cause, and its line to the notes
+-- a stop of this status, its cause, what it left in the output, and its line to the notes
 pub record SpokenFor (status : ℕ) (asked : Asked) (files : Option Files) (before now : List ℕ → ℕ) (old new : Option (List ℕ)) (out_before out_now : ℕ) (note_old note_new : Option (List ℕ)) (note_before note_now : ℕ) : Type 0 where
   pub stop : Stop
   pub is_status : status ≡ status_of stop
   pub cause : Cause stop asked files before now old new out_before out_now
   pub left : Left stop asked files old new
+  pub untried : Untried stop asked out_before out_now
   pub noted : Noted (line_of asked stop) note_old note_new note_before note_now
 
 abbrev pub Spoken : ℕ → Option Asked → Option Files → (List ℕ → ℕ) → (List ℕ → ℕ) → Option (List ℕ) → Option (List ℕ) → ℕ → ℕ → Option (List ℕ) → Option (List ℕ) → ℕ → ℕ → Type 0
