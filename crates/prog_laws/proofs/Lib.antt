@@ -1,0 +1,4 @@
+pub mod Numbers
+pub mod Stripped
+pub mod Bare
+pub mod Counted

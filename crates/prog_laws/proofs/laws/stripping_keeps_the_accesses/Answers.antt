@@ -1,0 +1,7 @@
+use Rattle.std.proofs.Common.{ap}
+use Rattle.c_prog.specs.Accesses.{numbered}
+use Rattle.c_prog.proofs.ValidStrip.{strip-touches}
+use Rattle.prog_laws.proofs.laws.stripping_keeps_the_accesses.Goals as goal
+
+pub returns : goal.returns
+returns c = λ t node. ap (numbered node 0) (strip-touches t node.number)
