@@ -12,3 +12,5 @@ mod marked;
 mod rows;
 #[cfg(test)]
 mod scopes;
+#[cfg(test)]
+mod uses;

@@ -5,7 +5,7 @@ use cfix_base::NoMemory;
 use std::alloc::Global;
 
 // Texts that pass a limit at the mark, each beside one that does not.
-const NUMBERS: [(&[u8], &[u8]); 16] = [
+const NUMBERS: [(&[u8], &[u8]); 25] = [
     (
         b"int @a[0]; int main(void) { }",
         b"int a[1]; int main(void) { }",
@@ -69,6 +69,42 @@ const NUMBERS: [(&[u8], &[u8]); 16] = [
     (
         b"void f(int a, int b, int c, int d, int e, int f, int g, int h, int i, int j, int k, int l, int m, int n, int o, int p, int q) { } int main(void) { @f(1, 2, 3, 4, 5, 6, 7, 8, 9, 10, 11, 12, 13, 14, 15, 16, 17); }",
         b"void f(int a, int b, int c, int d, int e, int f, int g, int h, int i, int j, int k, int l, int m, int n, int o, int p) { } int main(void) { f(1, 2, 3, 4, 5, 6, 7, 8, 9, 10, 11, 12, 13, 14, 15, 16); }",
+    ),
+    (
+        b"#define N 0\nint @a[N]; int main(void) { }",
+        b"#define N 1\nint a[N]; int main(void) { }",
+    ),
+    (
+        b"#define N 1025\nint main(void) { int @a[N]; }",
+        b"#define N 1024\nint main(void) { int a[N]; }",
+    ),
+    (
+        b"int main(void) { int a[2], @b[1023]; }",
+        b"int main(void) { int a[2], b[1022]; }",
+    ),
+    (
+        b"void *w(void *p) { int @a[1024]; } int main(void) { }",
+        b"void *w(void *p) { int a[1023]; } int main(void) { }",
+    ),
+    (
+        b"int main(void) { int a; @cfix_wait(1000); }",
+        b"int main(void) { int a; cfix_wait(999); }",
+    ),
+    (
+        b"int main(void) { while (1) { @cfix_leave(1000); break; } }",
+        b"int main(void) { while (1) { cfix_leave(999); break; } }",
+    ),
+    (
+        b"int x; int main(void) { for (;; x++, @cfix_enter(1000)) ; }",
+        b"int x; int main(void) { for (;; x++, cfix_enter(999)) ; }",
+    ),
+    (
+        b"int main(void) { if ((1) || (@cfix_done(1000), 0)) ; }",
+        b"int main(void) { if ((1) || (cfix_done(999), 0)) ; }",
+    ),
+    (
+        b"int main(void) { { int cfix_value = 1; @cfix_first(1000); return cfix_value; } }",
+        b"int main(void) { { int cfix_value = 1; cfix_first(999); return cfix_value; } }",
     ),
 ];
 
@@ -195,6 +231,15 @@ fn twenty_thousand_nodes(rt: HostRuntime) {
             statements(alloc, 19997, b"if (x) return x; else { int y, @z; } }")
         )
     );
+}
+
+#[test]
+fn the_nodes_of_all_functions_count(rt: HostRuntime) {
+    let alloc = rt.alloc();
+    let one_more = b" } void f(void) { ; } void g(void) { { @x--; } }";
+    assert!(rt; built_is_refused(alloc, statements(alloc, 20000, one_more)));
+    let none_left = b" x++; } void f(void) { { } }";
+    assert!(rt; built_is_accepted(alloc, statements(alloc, 19999, none_left)));
 }
 
 #[test]

@@ -60,3 +60,16 @@ pub fn fault_of(alloc: Global, text: &[u8]) -> Option<(FlawKind, u32, u32)> {
         _ => None,
     }
 }
+
+/// A refused text with its mark, and an accepted one.
+pub type Row = (&'static [u8], &'static [u8]);
+
+/// The first row that is not told as it says.
+pub fn first_broken(alloc: Global, kind: FlawKind, rows: &[Row]) -> Option<usize> {
+    for (at, row) in rows.iter().enumerate() {
+        if !is_refused(alloc, kind, row.0) || !is_accepted(alloc, row.1) {
+            return Some(at);
+        }
+    }
+    None
+}

@@ -1,12 +1,9 @@
 //! The rules of names, kind by kind: a refused text with its fault marked, and an accepted one
 //! beside it.
-use crate::marked::{fault_of, is_accepted, is_refused};
+use crate::marked::{Row, fault_of, first_broken, is_refused};
 use c_read::FlawKind;
-use std::alloc::Global;
 
-type Row = (&'static [u8], &'static [u8]);
-
-const UNKNOWN: [Row; 13] = [
+const UNKNOWN: [Row; 19] = [
     (
         b"int main(void) { @y = 1; }",
         b"int y; int main(void) { y = 1; }",
@@ -53,9 +50,30 @@ const UNKNOWN: [Row; 13] = [
         b"int main(void) { pthread_mutex_lock(&@m); }",
         b"pthread_mutex_t m; int main(void) { pthread_mutex_lock(&m); }",
     ),
+    (b"int @main(void);", b"int main(void); int main(void) { }"),
+    (
+        b"int main(void) { int a[@a]; }",
+        b"#define N 3\nint main(void) { int a[N]; }",
+    ),
+    (
+        b"int x = @N; int main(void) { }",
+        b"int x = N;\n#define N 3\nint main(void) { }",
+    ),
+    (
+        b"void f(int p) { } int main(void) { @p = 1; }",
+        b"void f(int p) { p = 1; } int main(void) { }",
+    ),
+    (
+        b"int x; void *w(void *a) { x = (int)@b; return 0; } int main(void) { }",
+        b"int x; void *w(void *b) { x = (int)b; return 0; } int main(void) { }",
+    ),
+    (
+        b"int main(void) { scanf(\"%d\", &@x); }",
+        b"int main(void) { scanf(\"%d\", &x); } int x;",
+    ),
 ];
 
-const TWICE: [Row; 13] = [
+const TWICE: [Row; 21] = [
     (
         b"int x; int @x; int main(void) { }",
         b"int x; int y; int main(void) { }",
@@ -108,9 +126,41 @@ const TWICE: [Row; 13] = [
         b"int main(void) { for (int i = 0, @i = 1; ; ) break; }",
         b"int main(void) { for (int i = 0, j = 1; ; ) { int i; break; } }",
     ),
+    (
+        b"void f(void); void f(void) { } int @f(void) { return 1; } int main(void) { }",
+        b"void f(void); void f(void) { } int g(void) { return 1; } int main(void) { }",
+    ),
+    (
+        b"void f(void) { }\n#define @f 1\nint main(void) { }",
+        b"void f(void) { }\n#define g 1\nint main(void) { }",
+    ),
+    (
+        b"int main(void) { } int @main(void) { }",
+        b"int main(void) { } void mains(void) { }",
+    ),
+    (
+        b"pthread_mutex_t m, @m; int main(void) { }",
+        b"pthread_mutex_t m, n; int main(void) { }",
+    ),
+    (
+        b"int main(void) { pthread_t a; int @a; }",
+        b"int main(void) { pthread_t a; { int a; } }",
+    ),
+    (
+        b"void *w(void *a) { int @a; } int main(void) { }",
+        b"void *w(void *a) { { int a; } } int main(void) { }",
+    ),
+    (
+        b"#define N 1\nint main(void) { for (int @N = 0; ; ) break; }",
+        b"#define N 1\nint main(void) { for (int n = 0; ; ) break; }",
+    ),
+    (
+        b"int main(void) { { int a; } int a; int @a; }",
+        b"int main(void) { { int a; } int a; { int a; } }",
+    ),
 ];
 
-const ARITY: [Row; 8] = [
+const ARITY: [Row; 10] = [
     (
         b"void f(int a) { } int main(void) { @f(); }",
         b"void f(int a) { } int main(void) { f(1); }",
@@ -142,6 +192,14 @@ const ARITY: [Row; 8] = [
     (
         b"int main(void) { @printf(\"%s\"  , 1); }",
         b"int main(void) { printf(\"%d\"  , 1); }",
+    ),
+    (
+        b"int f(int a) { { int cfix_value = @f(); cfix_leave(0); return cfix_value; } } int main(void) { }",
+        b"int f(int a) { { int cfix_value = f(1); cfix_leave(0); return cfix_value; } } int main(void) { }",
+    ),
+    (
+        b"int main(void) { @printf(\"\\n\", 1); }",
+        b"int main(void) { printf(\"%d\\n\", 1); }",
     ),
 ];
 
@@ -262,7 +320,7 @@ const MAIN: [Row; 6] = [
     ),
 ];
 
-const JUMPS: [Row; 15] = [
+const JUMPS: [Row; 23] = [
     (
         b"int main(void) { @break; }",
         b"int main(void) { while (1) break; }",
@@ -323,9 +381,41 @@ const JUMPS: [Row; 15] = [
         b"void *f(void *a) { { int cfix_value = 2; cfix_leave(0); @return cfix_value; } } int main(void) { }",
         b"void *f(void *a) { { int cfix_value = 0; cfix_leave(0); return cfix_value; } } int main(void) { }",
     ),
+    (
+        b"int main(void) { @continue; }",
+        b"int main(void) { while (0) continue; }",
+    ),
+    (
+        b"int main(void) { for (;;) break; @continue; }",
+        b"int main(void) { for (;;) { if (1) break; else continue; } }",
+    ),
+    (
+        b"int main(void) { @return NULL; }",
+        b"int main(void) { return 0; }",
+    ),
+    (
+        b"int f(void) { { cfix_leave(0); @return; } } int main(void) { }",
+        b"void f(void) { { cfix_leave(0); return; } } int main(void) { }",
+    ),
+    (
+        b"void f(void) { { cfix_leave(0); @return NULL; } } int main(void) { }",
+        b"void *f(void *a) { { cfix_leave(0); return NULL; } } int main(void) { }",
+    ),
+    (
+        b"int g(void) { return 0; } void *f(void *a) { @return g(); } int main(void) { }",
+        b"int g(void) { return 0; } void *f(void *a) { return ((0)); } int main(void) { }",
+    ),
+    (
+        b"void *f(void *a) { @return 0 + 0; } int main(void) { }",
+        b"void *f(void *a) { return (0); } int main(void) { }",
+    ),
+    (
+        b"#define ONE 1\nvoid *f(void *a) { @return ONE; } int main(void) { }",
+        b"#define ONE 0\nvoid *f(void *a) { return ONE; } int main(void) { }",
+    ),
 ];
 
-const NO_RETURN: [Row; 10] = [
+const NO_RETURN: [Row; 16] = [
     (
         b"int @f(void) { } int main(void) { }",
         b"void f(void) { } int main(void) { }",
@@ -366,6 +456,30 @@ const NO_RETURN: [Row; 10] = [
         b"int g(void); int @g(void) { { g(); } } int main(void) { }",
         b"int g(void); int g(void) { { return g(); } } int main(void) { }",
     ),
+    (
+        b"int @f(void) { for (;;) { if (1) break; } } int main(void) { }",
+        b"int f(void) { for (;;) { for (;;) break; } } int main(void) { }",
+    ),
+    (
+        b"int @f(void) { while (-1) ; } int main(void) { }",
+        b"int f(void) { while (1) ; } int main(void) { }",
+    ),
+    (
+        b"int @f(void) { while (1) { continue; break; } } int main(void) { }",
+        b"int f(void) { while (1) { continue; } } int main(void) { }",
+    ),
+    (
+        b"int @f(int a) { if (a) return 1; else ; } int main(void) { }",
+        b"int f(int a) { if (a) return 1; else while (1) ; } int main(void) { }",
+    ),
+    (
+        b"int @f(int a) { if (a) { int cfix_value = 1; cfix_leave(0); return cfix_value; } } int main(void) { }",
+        b"int f(int a) { { int cfix_value = 1; cfix_leave(0); return cfix_value; } } int main(void) { }",
+    ),
+    (
+        b"int @f(int a) { while ((a) && (cfix_enter(0), 1)) ; } int main(void) { }",
+        b"int f(int a) { while ((1) && (cfix_enter(0), 1)) ; } int main(void) { }",
+    ),
 ];
 
 const ROOT_CALLED: [Row; 6] = [
@@ -395,7 +509,7 @@ const ROOT_CALLED: [Row; 6] = [
     ),
 ];
 
-const RESERVED: [Row; 12] = [
+const RESERVED: [Row; 22] = [
     (
         b"int @cfix_x; int main(void) { }",
         b"int cfix; int main(void) { }",
@@ -444,6 +558,46 @@ const RESERVED: [Row; 12] = [
         b"#define @CFIX_START_2147483648 1\nint main(void) { }",
         b"#define CFIX_START_214 1\nint main(void) { }",
     ),
+    (
+        b"#define CFIX_START_1 1\nint x; int main(void) { x = @CFIX_START_1; }",
+        b"#define START_1 1\nint x; int main(void) { x = START_1; }",
+    ),
+    (
+        b"#define CFIX_START_1 1\nint a[@CFIX_START_1]; int main(void) { }",
+        b"#define START_1 1\nint a[START_1]; int main(void) { }",
+    ),
+    (
+        b"#define @CFIX_START_x 1\nint main(void) { }",
+        b"#define START_x 1\nint main(void) { }",
+    ),
+    (
+        b"int main(void) { for (int @cfix_i = 0; ; ) break; }",
+        b"int main(void) { for (int cfix = 0; ; ) break; }",
+    ),
+    (
+        b"int main(void) { pthread_t @CFIX_t; }",
+        b"int main(void) { pthread_t CFIX; }",
+    ),
+    (
+        b"void *w(void *@pthread_a) { return 0; } int main(void) { }",
+        b"void *w(void *pthread) { return 0; } int main(void) { }",
+    ),
+    (
+        b"void *w(void *@pthread_a); void *w(void *a) { return 0; } int main(void) { }",
+        b"void *w(void *pthread); void *w(void *a) { return 0; } int main(void) { }",
+    ),
+    (
+        b"void @cfix_f(void); void cfix_f(void) { } int main(void) { }",
+        b"void f_cfix_(void); void f_cfix_(void) { } int main(void) { }",
+    ),
+    (
+        b"pthread_mutex_t @PTHREAD_M; int main(void) { }",
+        b"pthread_mutex_t PTHREAD; int main(void) { }",
+    ),
+    (
+        b"#include <cfix_x.h>\nint @cfix_x; int main(void) { }",
+        b"#include <cfix_x.h>\nint x; int main(void) { }",
+    ),
 ];
 
 // Several faults: the least token, and at one token the kind that stands first.
@@ -489,16 +643,6 @@ const SEVERAL: [(FlawKind, &[u8]); 13] = [
         b"void v(void) { } int main(void) { int x = @v(y); }",
     ),
 ];
-
-// The first row that is not told as it says.
-fn first_broken(alloc: Global, kind: FlawKind, rows: &[Row]) -> Option<usize> {
-    for (at, row) in rows.iter().enumerate() {
-        if !is_refused(alloc, kind, row.0) || !is_accepted(alloc, row.1) {
-            return Some(at);
-        }
-    }
-    None
-}
 
 #[test]
 fn names_have_declarations(rt: HostRuntime) {
