@@ -7,8 +7,6 @@ mod cells;
 mod limits;
 mod nodes;
 mod spots;
-#[cfg(test)]
-mod tests;
 
 pub use called::push_calls;
 pub use cells::{hold_cells, push_cells};

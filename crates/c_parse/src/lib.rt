@@ -6,8 +6,6 @@ mod fault;
 mod globals;
 mod head;
 mod parsing;
-#[cfg(test)]
-mod tests;
 mod top;
 
 pub use c_raw::{

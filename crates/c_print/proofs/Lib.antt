@@ -7,4 +7,3 @@ pub mod Guards
 pub mod LinesWritten
 pub mod Elses
 pub mod Programs
-pub mod SampleValid

@@ -1,4 +1,3 @@
 pub mod Text
 pub mod Table
 pub mod Written
-pub mod Samples

@@ -12,7 +12,5 @@ mod pieces;
 mod printing;
 mod statements;
 mod steps;
-#[cfg(test)]
-mod tests;
 
 pub use printing::print;

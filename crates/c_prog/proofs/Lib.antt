@@ -15,5 +15,4 @@ pub mod ValidStrip
 pub mod StraightEquations
 pub mod StraightBody
 pub mod ValidStraight
-pub mod SampleValid
 pub mod Numberings

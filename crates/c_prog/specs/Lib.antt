@@ -7,7 +7,6 @@ pub mod Strip
 pub mod Patched
 pub mod Valid
 pub mod Straight
-pub mod Samples
 pub mod Calls
 pub mod Rising
 pub mod Lines

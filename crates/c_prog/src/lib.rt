@@ -25,14 +25,10 @@ mod same_act;
 mod same_expr;
 mod same_stmt;
 mod same_tree;
-#[cfg(test)]
-mod samples;
 mod search;
 mod source;
 mod stmt;
 mod stripping;
-#[cfg(test)]
-mod tests;
 mod touches;
 mod tree;
 

@@ -11,8 +11,6 @@ mod places;
 mod scope;
 mod sizes;
 mod table;
-#[cfg(test)]
-mod tests;
 mod uses;
 
 pub use kind::VarKind;

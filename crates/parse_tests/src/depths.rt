@@ -302,7 +302,9 @@ fn lists_are_as_long_as_they_may_be(rt: HostRuntime) -> Result<(), Fail> {
 /// A statement costs no frame of the stack.
 #[test]
 fn a_body_is_as_long_as_it_may_be(rt: HostRuntime) -> Result<(), Fail> {
-    let text = text_of(rt.alloc(), MAIN, &[(";", 200_000)])?;
-    assert_eq!(rt; answer_to(rt.alloc(), &text), Answer::File);
+    for (piece, times) in [(";", 200_000), ("x++;", 20_000)] {
+        let text = text_of(rt.alloc(), MAIN, &[(piece, times)])?;
+        assert_eq!(rt; answer_to(rt.alloc(), &text), Answer::File, "of {piece}");
+    }
     Ok(())
 }

@@ -15,6 +15,8 @@ mod directives;
 #[cfg(test)]
 mod expressions;
 #[cfg(test)]
+mod files;
+#[cfg(test)]
 mod globals;
 #[cfg(test)]
 mod heads;

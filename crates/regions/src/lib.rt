@@ -3,9 +3,5 @@
 
 mod between;
 mod critical;
-#[cfg(test)]
-mod samples;
-#[cfg(test)]
-mod tests;
 
 pub use critical::region;

@@ -4,4 +4,3 @@ pub mod CallPaths
 pub mod Traced
 pub mod Rules
 pub mod Turns
-mod SampleValid

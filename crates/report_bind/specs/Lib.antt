@@ -4,4 +4,3 @@ pub mod Places
 pub mod Binds
 pub mod Fits
 pub mod Found
-pub mod Samples

@@ -6,12 +6,8 @@ mod binding;
 mod fault;
 mod found;
 mod placing;
-#[cfg(test)]
-mod samples;
 mod sites;
 mod stacks;
-#[cfg(test)]
-mod tests;
 
 pub use binding::bind;
 pub use fault::{BindFault, Role};

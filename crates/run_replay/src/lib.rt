@@ -4,11 +4,7 @@
 mod closing;
 mod fault;
 mod replaying;
-#[cfg(test)]
-mod samples;
 mod stepping;
-#[cfg(test)]
-mod tests;
 
 pub use fault::ReplayFault;
 pub use replaying::replay;

@@ -8,8 +8,6 @@ mod item;
 mod stack;
 mod state;
 mod table;
-#[cfg(test)]
-mod tests;
 mod thread;
 
 pub use event::{Bytes, Ending, Event, Trap};

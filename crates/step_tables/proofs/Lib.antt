@@ -6,4 +6,3 @@ pub mod Places
 pub mod Finding
 pub mod Numbering
 pub mod Lookups
-pub mod SampleValid

@@ -5,4 +5,3 @@ pub mod Kept
 pub mod Walk
 pub mod Functions
 pub mod Rows
-pub mod Samples

@@ -7,12 +7,8 @@ mod functions;
 mod keep;
 mod nodes;
 mod row;
-#[cfg(test)]
-mod samples;
 mod sheet;
 mod tables;
-#[cfg(test)]
-mod tests;
 mod uses;
 mod views;
 mod walk;

@@ -9,6 +9,8 @@ mod early;
 #[cfg(test)]
 mod items;
 #[cfg(test)]
+mod lists;
+#[cfg(test)]
 mod locks;
 #[cfg(test)]
 mod orders;
@@ -20,6 +22,8 @@ mod programs;
 mod readers;
 #[cfg(test)]
 mod runs;
+#[cfg(test)]
+mod tables;
 #[cfg(test)]
 mod threads;
 #[cfg(test)]

@@ -1,2 +1,1 @@
 pub mod Graphs
-pub mod Samples

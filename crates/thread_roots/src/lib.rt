@@ -3,10 +3,6 @@
 
 mod build;
 mod control;
-#[cfg(test)]
-mod samples;
-#[cfg(test)]
-mod tests;
 
 pub use build::graphs;
 pub use control::Graphs;

@@ -5,8 +5,6 @@ mod closing;
 mod events;
 mod lines;
 mod pieces;
-#[cfg(test)]
-mod tests;
 
 pub use closing::closing_line;
 pub use lines::{event_line, event_line_into};

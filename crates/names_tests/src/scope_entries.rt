@@ -1,4 +1,4 @@
-use crate::{Meaning, Scope, Table, Use, VarKind, use_of};
+use c_scope::{Meaning, Scope, Table, Use, VarKind, use_of};
 use cfix_base::NoMemory;
 use std::alloc::Global;
 

@@ -1,5 +1,5 @@
-use crate::{Stack, Table};
 use std::test::Fail;
+use step_state::{Stack, Table};
 
 const VALUES: [u32; 4] = [5, 0, 7, 4294967295];
 

@@ -1,9 +1,14 @@
-use crate::Tables;
-use crate::samples::sample;
-use c_prog::{LocalKind, Program};
+//! What a machine reads of a program, by number.
+use crate::runs::source;
+use c_prog::LocalKind;
 use cfix_base::{AccessId, FnId, LockId, NodeId, Op, Place, VarId};
 use std::test::Fail;
 use step_state::Operand;
+use step_tables::Tables;
+
+/// Nodes 0 to 4 are the declaration, the condition, `i++`, the call of printf and the return.
+const PROGRAM: &[u8] = b"int x; int main(void) { int i = 0; \
+while ((x && i) || (cfix_leave(0), 0)) { i++; } printf(\"%d\", i); return i; }";
 
 fn node(number: u32) -> NodeId {
     NodeId { number }
@@ -12,8 +17,8 @@ fn node(number: u32) -> NodeId {
 #[test]
 fn a_machine_reads_its_program(rt: HostRuntime) -> Result<(), Fail> {
     let alloc = rt.alloc();
-    let program = Program::of(sample(alloc)?);
-    let tables = Tables::of(alloc, &program)?;
+    let source = source(alloc, PROGRAM).expect(&rt, "a program");
+    let tables = Tables::of(alloc, source.program())?;
     let main = FnId { number: 0 };
     assert_eq!(rt; tables.main(), main);
     assert_eq!(rt; tables.params(main), 0);
@@ -28,8 +33,8 @@ fn a_machine_reads_its_program(rt: HostRuntime) -> Result<(), Fail> {
 #[test]
 fn nodes_have_their_items_and_accesses(rt: HostRuntime) -> Result<(), Fail> {
     let alloc = rt.alloc();
-    let program = Program::of(sample(alloc)?);
-    let tables = Tables::of(alloc, &program)?;
+    let source = source(alloc, PROGRAM).expect(&rt, "a program");
+    let tables = Tables::of(alloc, source.program())?;
     for (number, count) in [(0, 3), (1, 3), (2, 5), (3, 3), (4, 2), (5, 0)] {
         assert_eq!(rt; tables.items(node(number)).len(), count, "node {number}");
     }
@@ -54,8 +59,8 @@ fn nodes_have_their_items_and_accesses(rt: HostRuntime) -> Result<(), Fail> {
 #[test]
 fn places_have_their_operations_and_successors(rt: HostRuntime) -> Result<(), Fail> {
     let alloc = rt.alloc();
-    let program = Program::of(sample(alloc)?);
-    let tables = Tables::of(alloc, &program)?;
+    let source = source(alloc, PROGRAM).expect(&rt, "a program");
+    let tables = Tables::of(alloc, source.program())?;
     for (place, next) in [
         (Place::Start(FnId { number: 0 }), Some(node(0))),
         (Place::After(node(0)), Some(node(1))),

@@ -1,6 +1,6 @@
 ghost use Rattle.std.specs.Prelude.{◌<◌};
 
-use crate::{note_cells, note_excess, push_calls, push_cells, push_nodes};
+use c_limits::{note_cells, note_excess, push_calls, push_cells, push_nodes};
 use c_names::{Fault, FaultKind};
 use c_raw::{Call, Decl, Ident, Item, LocalInt, Numeral, Simple, Size, Stmt};
 use c_scope::Table;
