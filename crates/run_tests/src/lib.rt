@@ -7,6 +7,8 @@ mod classic;
 #[cfg(test)]
 mod counter;
 #[cfg(test)]
+mod critical_regions;
+#[cfg(test)]
 mod examples;
 #[cfg(test)]
 mod failing;

@@ -215,7 +215,7 @@ stuck
 }
 
 /// So many entries of a thread, and an end.
-fn entries(alloc: Global, parts: &[(&[u8], usize)]) -> Result<Vec<u8>, AllocError> {
+pub fn entries(alloc: Global, parts: &[(&[u8], usize)]) -> Result<Vec<u8>, AllocError> {
     let mut text = Vec::new(alloc);
     for (entry, count) in parts {
         for _ in 0..*count {
