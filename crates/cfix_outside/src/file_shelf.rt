@@ -1,7 +1,7 @@
 ghost use Rattle.std.specs.Prelude.{◌≡◌, ◌≤◌, [], List, ℕ};
 ghost use Rattle.cfix_outside.specs.Faults.{Rose, last_count};
 ghost use Rattle.cfix_outside.specs.Shelves.{Answers};
-ghost use Rattle.cfix_outside.specs.Adapters.{untold_files, count_after};
+ghost use Rattle.cfix_outside.specs.Adapters.{untold_files, count_after, given_by};
 
 use crate::shelf::{Shelf, ShelfFault};
 use std::alloc::Global;
@@ -29,7 +29,8 @@ impl<'a, R: Files> FileShelf<'a, R> {
 
 // Reads until the file ends, or is longer than the limit. A read of no bytes is its end.
 fn read_all<F: Read>(alloc: Global, file: &mut F, limit: usize) -> Result<Vec<u8>, ShelfFault>
-    ensures { Answers untold_files [] limit result }
+    ensures answer { Answers untold_files [] limit result }
+    ensures given { Answers (given_by (F.remaining file.old)) [] limit result }
 {
     let mut bytes = Vec::new(alloc);
     let mut buffer = [0u8; BUFFER];

@@ -1,13 +1,17 @@
 ghost use Rattle.std.specs.Prelude.{◌≡◌, ◌≤◌, OnOk, OnErr};
 ghost use Rattle.cfix_outside.specs.Faults.{Rose, last_count, risen};
 ghost use Rattle.cfix_outside.specs.Sinks.{Gained, GainedFront};
-ghost use Rattle.cfix_outside.specs.Adapters.{untold_bytes};
+ghost use Rattle.cfix_outside.specs.Adapters.{untold_bytes, AppendsFront};
+ghost use Rattle.std.specs.Io.KnownBytes.{Appends};
 
 use crate::sink::{Sink, SinkFault};
 use std::io::{Stderr, Stdout, Write};
 
 // Writes all of a piece. A writer that takes nothing of what is left is a fault.
-fn write_whole<W: Write>(writer: &mut W, piece: &[u8]) -> Result<(), SinkFault> {
+fn write_whole<W: Write>(writer: &mut W, piece: &[u8]) -> Result<(), SinkFault>
+    ensures whole { OnOk result (Appends (W.contents writer.old) (W.contents writer.new) piece.now) }
+    ensures front { OnErr result (AppendsFront (W.contents writer.old) (W.contents writer.new) piece.now) }
+{
     let mut rest = piece;
     while !rest.is_empty() {
         match writer.write(rest) {
@@ -21,6 +25,8 @@ fn write_whole<W: Write>(writer: &mut W, piece: &[u8]) -> Result<(), SinkFault> 
 
 // Writes all of a piece, and counts a failure.
 fn write_counted<W: Write>(writer: &mut W, faults: &mut u64, piece: &[u8]) -> Result<(), SinkFault>
+    ensures whole { OnOk result (Appends (W.contents writer.old) (W.contents writer.new) piece.now) }
+    ensures front { OnErr result (AppendsFront (W.contents writer.old) (W.contents writer.new) piece.now) }
     ensures same { OnOk result (faults.new ≡ faults.old) }
     ensures rises { OnErr result (faults.new ≡ risen faults.old) }
     ensures later { faults.old ≤ faults.new }

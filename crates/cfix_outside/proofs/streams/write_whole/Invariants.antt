@@ -1,5 +1,11 @@
-use Rattle.std.proofs.Common.{length}
+use Rattle.std.proofs.Common.{◌≡◌, ◌≤◌, ◌-◌, length, take, drop}
+use Rattle.std.specs.Io.KnownBytes.{Appends}
 use Rattle.cfix_outside.proofs.streams.write_whole.Given as goal
+
+abbrev pub invariant-loop-rest : goal.invariant-loop-rest
+invariant-loop-rest g l =
+    Appends (g.W.Write.contents l.initial.writer) (g.W.Write.contents l.writer) (take (length l.piece - length l.rest) l.piece)
+    × (l.rest ≡ drop (length l.piece - length l.rest) l.piece) × (length l.rest ≤ length l.piece)
 
 abbrev pub decreases-loop-rest : goal.decreases-loop-rest
 decreases-loop-rest g l = length l.rest
