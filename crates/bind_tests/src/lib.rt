@@ -1,9 +1,11 @@
-//! Tests of binding and of critical regions on whole texts: a program and a report are read, bound, and
-//! what comes out is compared with what follows from the rules by hand.
+//! Tests of control flow, binding and critical regions on whole texts: a program and a report are read,
+//! bound, and what comes out is compared with what follows from the rules by hand.
 #![tactic(auto)]
 
 #[cfg(test)]
 mod binding;
+#[cfg(test)]
+mod flows;
 #[cfg(test)]
 mod paths;
 #[cfg(test)]

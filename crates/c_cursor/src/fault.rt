@@ -1,12 +1,18 @@
 use cfix_base::NoMemory;
 use std::alloc::{AllocError, AllocFailed};
+use thiserror::Error;
 
 /// Why tokens are not read. A place counts the tokens before the fault; it is the number of all
 /// tokens where the text ends too early.
-#[derive(Clone, Copy, Debug, PartialEq, Eq)]
+#[derive(Clone, Copy, Debug, PartialEq, Eq, Error)]
 pub enum ReadFault {
+    #[error("NoMemory")]
     NoMemory,
+    /// The first token with which the reader does not go on.
+    #[error("Unexpected")]
     Unexpected(usize),
+    /// The first token that stands too deep.
+    #[error("Deep")]
     Deep(usize),
 }
 

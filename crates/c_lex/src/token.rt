@@ -5,8 +5,8 @@ use cfix_base::{List, MAX_TOKENS, Spot};
 use std::alloc::Global;
 use std::marker::Model;
 
-/// What a token is. `Quoted` holds the bytes that the characters and escapes of a string stand for;
-/// the others hold the bytes of the text.
+/// What a token is. `Number` holds the value of its digits, `Quoted` the bytes that the characters
+/// and escapes of a string stand for; the others hold the bytes of the text.
 #[derive(Debug, Drop)]
 pub enum Kind {
     Name(List<u8>),

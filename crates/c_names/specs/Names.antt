@@ -30,12 +30,13 @@ size_faults names scope (Count n) = []
 size_faults names scope (Named x) =
     reserved_faults x ++ use_faults (is_defined_use (use_of names scope x.text)) (use_of names scope x.text) x.spot
 
--- a number that is defined; 1 where the name has a fault
+-- a number that is defined, or 1 where none is
 abbrev pub number_or_one : Option ℤ → ℤ
 number_or_one None = pos 1
 number_or_one (Some n) = n
 
--- the number that is spelled by a number or by a defined name
+-- The number that is spelled by a number or by a defined name. It is 1 where the first declaration of the name defines no number;
+-- a name that has a fault for another cause, as a reserved one, keeps the number that is defined.
 abbrev pub size_number : Names → Size → ℤ
 size_number names (Count n) = n.value
 size_number names (Named x) = number_or_one (defined_number (names x.text).first)

@@ -8,7 +8,8 @@ use Rattle.c_grammar.specs.File.{File, file_marks, is_file}
 use Rattle.c_grammar.specs.Verdict.{IsRead}
 use Rattle.c_names.specs.Texts.{tokens_read}
 
--- The file is the one that the grammar assigns to the tokens of some text, whose end is this. The text is bytes.
+-- The file is the one that the grammar assigns to the tokens of some text, whose end is this: at most 1,000,000 tokens, none deeper
+-- than 200. The text is bytes.
 pub record IsParsed (end : Spot) (file : File) : Type 0 where
   pub text : List ℕ
   pub bytes : list_all (λ byte. nat_le byte 255) text ≡ true

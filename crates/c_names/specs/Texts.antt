@@ -1,8 +1,8 @@
 -- Which source a text spells, and which texts are accepted. The text divides into tokens; the tokens are those of a file of the
 -- grammar; and the names of the file resolve to the source.
-use Rattle.std.specs.Prelude.{◌≡◌, ℕ, Bool, true, false, List, [], map}
+use Rattle.std.specs.Prelude.{◌≡◌, ℕ, ◌≤◌, Bool, true, false, List, [], length, map}
 use Rattle.std.specs.List.{list_all}
-use Rattle.cfix_base.specs.declared.limits.TheConstants.{MAX_DEPTH}
+use Rattle.cfix_base.specs.declared.limits.TheConstants.{MAX_DEPTH, MAX_SOURCE_BYTES}
 use Rattle.c_lex.specs.declared.token.Kind as k
 use Rattle.c_lex.specs.declared.token.Kind.TheVariants as lexed_kind
 use Rattle.c_lex.specs.declared.token.Token as t
@@ -55,9 +55,10 @@ pub record Spells (text : List ℕ) (source : SourceTree) : Type 0 where
   pub faultless : list_all (λ f. is_limit f.kind) (faults_of (spot_behind text) file) ≡ true
   pub is_source : source ≡ source_of file
 
--- The text is accepted: it has a token for each piece that is no blank or comment and not too many, they are those of a file and
--- none stands too deep, and the names of the file have no fault.
+-- The text is accepted: it is not too long, it has a token for each piece that is no blank or comment and not too many, they are those
+-- of a file and none stands too deep, and the names of the file have no fault.
 pub record Accepts (text : List ℕ) : Type 0 where
+  pub within : length text ≤ MAX_SOURCE_BYTES
   pub lexed : Lexed
   pub lexes : Lexes text lexed
   pub file : File

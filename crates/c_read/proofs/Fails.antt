@@ -1,7 +1,8 @@
 -- What each fault tells, and that what is parsed is a file of the text's tokens.
-use Rattle.std.proofs.Common.{◌≡◌, ℕ, suc, ◌≤◌, true, nat_le, List, [], ◌∷◌, get_or, None, map, refl, subst, ap, sym, ◌∙◌, arith}
+use Rattle.std.proofs.Common.{◌≡◌, ℕ, suc, ◌≤◌, true, nat_le, List, [], ◌∷◌, length, get_or, None, map, refl, subst, ap, sym, ◌∙◌, arith}
 use Rattle.std.specs.List.{list_all}
 use Rattle.std.proofs.lemmas.Bool.Decides.{nat_tests}
+use Rattle.cfix_base.specs.declared.limits.TheConstants.{MAX_SOURCE_BYTES}
 use Rattle.c_lex.specs.declared.fault.LexFault.{LexFault}
 use Rattle.c_lex.specs.declared.fault.LexFault.TheVariants as lex
 use Rattle.c_lex.specs.declared.token.Kind as k
@@ -89,10 +90,11 @@ parsed text lexed raw bytes lexes parses = record {
 }
 
 -- the source that is made of a file without faults
-pub reads_as : (text : List ℕ) (lexed : Lexed) (raw : Raw) (source : SourceTree) → Lexes text lexed → Parses lexed raw
-    → source ≡ source_of (file_view raw) → faults_of raw.end (file_view raw) ≡ [] → Reads text source
-reads_as text lexed raw source lexes parses made clean = record {
+pub reads_as : (text : List ℕ) (lexed : Lexed) (raw : Raw) (source : SourceTree) → length text ≤ MAX_SOURCE_BYTES → Lexes text lexed
+    → Parses lexed raw → source ≡ source_of (file_view raw) → faults_of raw.end (file_view raw) ≡ [] → Reads text source
+reads_as text lexed raw source within lexes parses made clean = record {
   accepted = record {
+    within = within;
     lexed = lexed;
     lexes = lexes;
     file = file_view raw;

@@ -5,6 +5,7 @@ use c_lex::LexFault;
 use c_parse::ParseFault;
 use c_types::NameFault;
 use cfix_base::Spot;
+use thiserror::Error;
 
 /// What is wrong with a source: its tokens, then its grammar, then its names, as `lex`, `parse` and
 /// `resolve` have it.
@@ -35,9 +36,11 @@ pub struct Flaw {
 }
 
 /// Why a source was not read.
-#[derive(Clone, Copy, Debug, PartialEq, Eq)]
+#[derive(Clone, Copy, Debug, PartialEq, Eq, Error)]
 pub enum ReadFault {
+    #[error("NoMemory")]
     NoMemory,
+    #[error("Flawed")]
     Flawed(Flaw),
 }
 

@@ -13,7 +13,8 @@ use c_names::{Fault, FaultKind};
 use c_raw::Size;
 use cfix_base::{MAX_ARRAY_LENGTH, Spot};
 
-/// The number that is spelled by a number or by a defined name; 1 where the name has a fault.
+/// The number that is spelled by a number or by a defined name; 1 where the first declaration of
+/// the name defines no number.
 pub fn size_number(names: &Table, size: &Size) -> i32
     ensures { result ≡ size_number (names_from names.now) (size_view size.now) }
 {

@@ -10,7 +10,7 @@ use c_prog::Program;
 use cfix_base::NoMemory;
 use std::alloc::Global;
 
-/// The calls of a program. Each node is looked at once.
+/// The calls of a program, in time linear in its nodes and functions.
 pub fn calls(alloc: Global, program: &Program) -> Result<Calls, NoMemory>
     ensures { IfOk result (λ calls. calls ≡ calls_of program.now) }
 {

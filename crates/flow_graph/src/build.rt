@@ -275,7 +275,7 @@ pub fn flow(alloc: Global, program: &Program, of: FnId) -> Result<Flow, NoMemory
     Ok(flow)
 }
 
-/// Control flow of each function of the program, in order. No function is counted twice.
+/// Control flow of each function of the program, in order, in time linear in the program's nodes.
 pub fn flows(alloc: Global, program: &Program) -> Result<List<Flow>, NoMemory>
     ensures { IfOk result (λ flows. flows ≡ graphs_of program.now) }
 {

@@ -28,7 +28,6 @@ pub struct Table {
 }
 
 /// Adds what is behind the next node.
-
 pub fn add(table: &mut Table, out: Out) -> Result<(), NoMemory>
     ensures ways { OnOk result (table_ways table.new ≡ table_ways table.old ++ out_ways (table_end table.old) out) }
     ensures last { OnOk result (table_end table.new ≡ table_end table.old + 1) }

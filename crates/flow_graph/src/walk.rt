@@ -56,7 +56,8 @@ fn targets_in(lists: &[List<u32>], first: u32, node: u32) -> &[u32]
 }
 
 /// The nodes at the ends of chains of links from the starts whose inner nodes are not avoided. The
-/// nodes of the lists count from `first`; each node is gone on from once.
+/// nodes of the lists count from `first`. A node is gone on from once when it is found, and a start
+/// once more.
 pub fn walk(
     alloc: Global,
     lists: &[List<u32>],

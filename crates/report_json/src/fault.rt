@@ -3,7 +3,8 @@ ghost use Rattle.std.specs.Prelude.{◌≡◌};
 use cfix_base::NoMemory;
 use thiserror::Error;
 
-/// Why a text is no list of reports. An earlier variant comes before a later one.
+/// Why a text is no list of reports. `BadJson` comes first, then `Shape` of none, then `TooMany`,
+/// then `Shape` of a report.
 #[derive(Clone, Copy, Debug, PartialEq, Eq, Error)]
 pub enum ReportFault {
     #[error("NoMemory")]

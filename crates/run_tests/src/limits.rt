@@ -48,18 +48,21 @@ fn files_are_read_up_to_their_limits(rt: HostRuntime) -> Result<(), Fail> {
 #[test]
 fn the_files_of_a_replay_are_read_up_to_their_limits(rt: HostRuntime) -> Result<(), Fail> {
     let alloc = rt.alloc();
-    for (input, schedule, note) in [
+    for (input, zeros, status, note) in [
         (
             1048577usize,
-            8388609usize,
+            8388607usize,
+            4u8,
             b"cfix: i.txt is longer than 1048576 bytes\n".as_slice(),
         ),
-        (0, 8388609, b"cfix: s.txt is longer than 8388608 bytes\n"),
+        (0, 8388607, 4, b"cfix: s.txt is longer than 8388608 bytes\n"),
+        (1048576, 8388606, 9, b"cfix: entry 1 is not enabled\n"),
     ] {
+        // The schedule is one line, of the number 7 behind so many zeros.
         let input = filled(alloc, b"", input)?;
-        let schedule = filled(alloc, b"", schedule)?;
+        let schedule = copies(alloc, b"", b"0", zeros, b"7\n", b"", b"")?;
         let ended = play(alloc, &replay(COUNTER, &input, &schedule)).expect(&rt, "memory");
-        assert_eq!(rt; ended.status, 4);
+        assert_eq!(rt; ended.status, status);
         assert!(rt; ended.out.taken().is_empty());
         assert_eq!(rt; ended.note.taken(), note);
     }
@@ -156,13 +159,18 @@ fn needless_parentheses_are_gone(rt: HostRuntime) -> Result<(), Fail> {
 #[test]
 fn there_are_at_most_a_million_tokens(rt: HostRuntime) -> Result<(), Fail> {
     let alloc = rt.alloc();
-    let source = copies(alloc, b"", b";", 1000001, b"", b"", b"")?;
-    let ended = shown(alloc, &source).expect(&rt, "memory");
-    assert_eq!(rt;
-        ended.note.taken(),
-        b"cfix: source line 1: too many tokens\n".as_slice()
-    );
-    assert_eq!(rt; ended.status, 6);
+    for (count, note) in [
+        (
+            1000000usize,
+            b"cfix: source line 1: unexpected token\n".as_slice(),
+        ),
+        (1000001, b"cfix: source line 1: too many tokens\n"),
+    ] {
+        let source = copies(alloc, b"", b";", count, b"", b"", b"")?;
+        let ended = shown(alloc, &source).expect(&rt, "memory");
+        assert_eq!(rt; ended.note.taken(), note);
+        assert_eq!(rt; ended.status, 6);
+    }
     Ok(())
 }
 

@@ -8,7 +8,8 @@ use cfix_base::NoMemory;
 use flow_graph::flows;
 use std::alloc::Global;
 
-/// Control flow of all functions of a program, and its calls. Each function is looked at once.
+/// Control flow of all functions of a program, and its calls. It takes time linear in
+/// the program's nodes and calls.
 pub fn graphs(alloc: Global, program: &Program) -> Result<Graphs, NoMemory>
     ensures { IfOk result (λ graphs. graphs ≡ graphs_in program.now) }
 {

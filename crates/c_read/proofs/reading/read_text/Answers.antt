@@ -10,5 +10,5 @@ source_of-requires c =
 
 pub returns-in-Ok-clause-read : goal.returns-in-Ok-clause-read
 returns-in-Ok-clause-read c =
-    reads_as c.args.text.now c.in_ok-tokens.tokens c.in_ok-raw.raw c.in-Ok.source c.in_ok-tokens.ensures.read c.in_ok-raw.ensures.read
-    c.in-Ok.ensures.spelled c.in-Ok.ensures.clean
+    reads_as c.args.text.now c.in_ok-tokens.tokens c.in_ok-raw.raw c.in-Ok.source c.requires c.in_ok-tokens.ensures.read
+    c.in_ok-raw.ensures.read c.in-Ok.ensures.spelled c.in-Ok.ensures.clean
