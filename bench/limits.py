@@ -2,7 +2,7 @@
 """Measures `cfix` on inputs at its limits, each beside the same at half its size: limits.py [ROUNDS]
 
 Prints for each the least seconds of processor time of so many rounds (3 if not said) and the most
-memory, of which some 14 MiB are this script's own, before the command begins. The output of the
+memory, of which some 27 MiB are this script's own, before the command begins. The output of the
 command goes nowhere."""
 
 import os
