@@ -56,9 +56,9 @@ fn the_files_of_a_replay_are_read_up_to_their_limits(rt: HostRuntime) -> Result<
             b"cfix: i.txt is longer than 1048576 bytes\n".as_slice(),
         ),
         (0, 8388607, 4, b"cfix: s.txt is longer than 8388608 bytes\n"),
-        (1048576, 8388606, 9, b"cfix: entry 1 is not enabled\n"),
+        (1048576, 8388606, 9, b"cfix: schedule line 1: bad entry\n"),
     ] {
-        // The schedule is one line, of the number 7 behind so many zeros.
+        // The schedule is one line, of the number 7 behind so many zeros, which is no entry.
         let input = filled(alloc, b"", input)?;
         let schedule = copies(alloc, b"", b"0", zeros, b"7\n", b"", b"")?;
         let ended = play(alloc, &replay(COUNTER, &input, &schedule)).expect(&rt, "memory");
