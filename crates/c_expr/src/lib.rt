@@ -13,8 +13,6 @@ mod operations;
 mod signs;
 mod statements;
 mod targets;
-#[cfg(test)]
-mod tests;
 mod values;
 
 pub use arguments::{CallTail, args, call_of, call_tail};

@@ -13,8 +13,6 @@ mod number;
 mod sign;
 mod step;
 mod table;
-#[cfg(test)]
-mod tests;
 mod token;
 
 pub use fault::LexFault;

@@ -6,4 +6,3 @@ pub mod Decls
 pub mod Conds
 pub mod Stmts
 pub mod Files
-pub mod Walk

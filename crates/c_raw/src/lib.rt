@@ -9,8 +9,6 @@ mod file;
 mod op;
 mod simple;
 mod stmt;
-#[cfg(test)]
-mod tests;
 mod token;
 
 pub use cond::{BothGuard, Cond, FalseGuard, Guard, TrueGuard};

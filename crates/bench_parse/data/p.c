@@ -1,4 +1,0 @@
-int count;
-int main(void) {
-    count++;
-}
