@@ -1,14 +1,13 @@
-use crate::{Class, Classes, FnSet, NodeSet};
+//! The sets and classes of the planner, which no command shows.
 use cfix_base::{FnId, List, NodeId};
+use plan_types::{Class, Classes, FnSet, NodeSet};
 use std::test::Fail;
-
-const SIZES: [u32; 5] = [0, 1, 64, 65, 130];
 
 const MEMBERS: [u32; 5] = [0, 63, 64, 100, 129];
 
 #[test]
-fn a_node_set_has_what_was_inserted(rt: HostRuntime) -> Result<(), Fail> {
-    for size in SIZES {
+fn sets_have_what_was_inserted(rt: HostRuntime) -> Result<(), Fail> {
+    for size in [0u32, 1, 64, 65, 130] {
         let mut set = NodeSet::empty(rt.alloc(), size).expect(&rt, "memory");
         for number in MEMBERS {
             if number < set.size() {
@@ -21,11 +20,6 @@ fn a_node_set_has_what_was_inserted(rt: HostRuntime) -> Result<(), Fail> {
             assert_eq!(rt; set.contains(NodeId { number }), is_member);
         }
     }
-    Ok(())
-}
-
-#[test]
-fn a_function_set_has_what_was_inserted(rt: HostRuntime) -> Result<(), Fail> {
     let mut set = FnSet::empty(rt.alloc(), 70).expect(&rt, "memory");
     if set.size() > 66 {
         set.insert(FnId { number: 66 });
