@@ -25,6 +25,12 @@ fn check(rt: &impl Abort, alloc: Global, scene: &Scene<'_>, status: u8, out: &[u
     assert_eq!(rt; ended.note.taken(), note);
 }
 
+/// The first bytes of the shown source, so many.
+fn front(size: usize) -> &'static [u8] {
+    let shown = classic();
+    &shown[..size.min(shown.len())]
+}
+
 /// The calls of the shelf, of the output and of the notes that fail.
 #[test]
 fn each_fault_has_its_status_and_its_line(rt: HostRuntime) {
@@ -44,78 +50,35 @@ fn each_fault_has_its_status_and_its_line(rt: HostRuntime) {
     let third = &[(2u32, 0u32)].as_slice();
     let nothing = b"".as_slice();
     let no_source = b"cfix: cannot read p.c\n".as_slice();
+    let no_reports = b"cfix: cannot read r.json\n";
+    let no_input = b"cfix: cannot read i.txt\n";
+    let no_schedule = b"cfix: cannot read s.txt\n";
     let no_write = b"cfix: cannot write\n".as_slice();
+    let (cut, longer) = (b"cfix: cannot read p", b"cfix: cannot read p.c");
+    let in_step = b"1 0 begin 0\n2 0";
     for (scene, reads, puts, notes, status, out, note) in [
         (patch, *first, none, none, 4u8, nothing, no_source),
-        (
-            patch,
-            second,
-            none,
-            none,
-            4,
-            b"",
-            b"cfix: cannot read r.json\n",
-        ),
+        (patch, second, none, none, 4, b"", no_reports),
         (patch, none, first, none, 5, b"", no_write),
         (patch, none, &[(0, 1)], none, 5, b"#", no_write),
         (patch, none, &[(0, 3)], none, 5, b"#in", no_write),
         (patch, none, second, second, 0, COUNTER_PATCHED, b""),
         (patch, none, &[(0, 1)], &[(0, 7)], 5, b"#", b"cfix: c"),
         (patch, first, none, &[(0, 2)], 4, b"", b"cf"),
-        (
-            patch,
-            first,
-            none,
-            &[(1, 1)],
-            4,
-            b"",
-            b"cfix: cannot read p",
-        ),
-        (
-            patch,
-            first,
-            none,
-            &[(2, 0)],
-            4,
-            b"",
-            b"cfix: cannot read p.c",
-        ),
+        (patch, first, none, &[(1, 1)], 4, b"", cut),
+        (patch, first, none, &[(2, 0)], 4, b"", longer),
         (show, first, none, none, 4, b"", no_source),
         (show, none, first, none, 5, b"", no_write),
         (show, none, &[(0, 1)], none, 5, b"#", no_write),
-        (show, none, &[(1, 10)], none, 5, &classic()[..266], no_write),
-        (show, none, &[(1, 10)], first, 5, &classic()[..266], b""),
+        (show, none, &[(1, 10)], none, 5, front(266), no_write),
+        (show, none, &[(1, 10)], first, 5, front(266), b""),
         (show, none, none, first, 0, classic(), b""),
         // The files are read in the order of the words.
         (replay, first, none, none, 4, b"", no_source),
-        (
-            replay,
-            second,
-            none,
-            none,
-            4,
-            b"",
-            b"cfix: cannot read i.txt\n",
-        ),
-        (
-            replay,
-            third,
-            none,
-            none,
-            4,
-            b"",
-            b"cfix: cannot read s.txt\n",
-        ),
+        (replay, second, none, none, 4, b"", no_input),
+        (replay, third, none, none, 4, b"", no_schedule),
         // Where a put fails before the entry that makes no step, the entry is not told.
-        (
-            replay,
-            none,
-            &[(1, 3)],
-            none,
-            5,
-            b"1 0 begin 0\n2 0",
-            no_write,
-        ),
+        (replay, none, &[(1, 3)], none, 5, in_step, no_write),
     ] {
         let scene = Scene {
             reads,
