@@ -11,8 +11,6 @@ mod plan;
 mod shelf;
 mod sink;
 mod streams;
-#[cfg(test)]
-mod tests;
 
 pub use file_shelf::FileShelf;
 pub use memory_shelf::MemoryShelf;

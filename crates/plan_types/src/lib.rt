@@ -8,8 +8,6 @@ mod fn_set;
 mod node_set;
 mod number_set;
 mod order_plan;
-#[cfg(test)]
-mod tests;
 
 pub use bound::{Atom, Bound};
 pub use class::{Class, Classes};

@@ -13,6 +13,3 @@ pub use fault::ReportFault;
 pub use read_reports::reports;
 pub use report::{CallSite, Report, Site};
 pub use report_list::Reports;
-
-#[cfg(test)]
-mod tests;

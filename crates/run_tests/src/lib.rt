@@ -1,30 +1,18 @@
-//! Tests of the commands on whole files: each calls `run` over a shelf and sinks in memory, and compares
-//! the status, the output and the note, byte by byte.
+//! Tests of what no file shows: the outside that fails as planned, and calls that no command makes.
+//! What the commands show is in `tests/`.
 #![tactic(auto)]
 
 #[cfg(test)]
-mod classic;
-#[cfg(test)]
-mod counter;
-#[cfg(test)]
-mod critical_regions;
-#[cfg(test)]
-mod examples;
-#[cfg(test)]
 mod failing;
 #[cfg(test)]
-mod limits;
-#[cfg(test)]
-mod operations;
-#[cfg(test)]
-mod replaying;
+mod outside;
 #[cfg(test)]
 mod reports;
 #[cfg(test)]
-mod ring;
-#[cfg(test)]
 mod scene;
 #[cfg(test)]
-mod showing;
+mod schedules;
 #[cfg(test)]
-mod wording;
+mod sets;
+#[cfg(test)]
+mod texts;

@@ -1,79 +1,49 @@
-use crate::counter::{COUNTER, COUNTER_PATCHED, COUNTER_REPORT};
-use crate::scene::{patch, play};
-use std::alloc::{AllocError, Global};
+//! The values of reports that `patch` reads and does not use.
+use cfix_base::Access;
+use report_json::{CallSite, Report, Site, reports};
+use std::process::Abort;
 use std::test::Fail;
 
-/// A stack that is not empty, two reports, and a report of another kind.
-const STACK: &[u8] = b"{\"reports\":[{\"kind\":\"atomicity\",
- \"p\":{\"line\":3,\"var\":\"count\",\"access\":\"read\"},
- \"c\":{\"line\":3,\"var\":\"count\",\"access\":\"write\"},
- \"r\":{\"line\":3,\"var\":\"count\",\"access\":\"write\",\"stack\":[{\"fn\":\"main\",\"line\":3}]}}]}
-";
+fn check_site(rt: &impl Abort, site: &Site, line: u32, access: Access, nth: u32) {
+    assert_eq!(rt; site.line, line);
+    assert_eq!(rt; site.var.as_slice(), b"count".as_slice());
+    assert_eq!(rt; site.access, access);
+    assert_eq!(rt; site.nth, nth);
+}
 
-const ORDER: &[u8] = b"{\"reports\":[{\"kind\":\"all_before\",
- \"a\":{\"line\":3,\"var\":\"count\",\"access\":\"read\"},
- \"b\":{\"line\":3,\"var\":\"count\",\"access\":\"write\"}}]}
-";
+fn check_call(rt: &impl Abort, call: &CallSite, of: &str, line: u32, nth: u32) {
+    assert_eq!(rt; call.of.as_slice(), of.as_bytes());
+    assert_eq!(rt; (call.line, call.nth), (line, nth));
+}
 
 #[test]
-fn reports_are_read_or_refused(rt: HostRuntime) {
-    let alloc = rt.alloc();
-    let outside = b"cfix: reports: outside the first form\n".as_slice();
-    for (reports, note) in [
-        (
-            b"{\"reports\": [".as_slice(),
-            b"cfix: reports: not JSON\n".as_slice(),
-        ),
-        (b"", b"cfix: reports: not JSON\n"),
-        (b"\xff", b"cfix: reports: not JSON\n"),
-        (b"[]", b"cfix: reports: wrong shape\n"),
-        (
-            b"{\"reports\":[{\"kind\":\"atomic\"}]}",
-            b"cfix: report 0: wrong shape\n",
-        ),
-        (b"{\"reports\":[]}", outside),
-        (STACK, outside),
-        (ORDER, outside),
-    ] {
-        let ended = play(alloc, &patch(COUNTER, reports)).expect(&rt, "memory");
-        assert_eq!(rt; ended.status, 7);
-        assert!(rt; ended.out.taken().is_empty());
-        assert_eq!(rt; ended.note.taken(), note);
-    }
-}
-
-/// The report of the first example, without the brackets round it.
-fn one_report() -> &'static [u8] {
-    let front = b"{\"reports\":[".len();
-    &COUNTER_REPORT[front..COUNTER_REPORT.len() - 3]
-}
-
-/// So many copies of the report of the first example.
-fn copies(alloc: Global, count: usize) -> Result<Vec<u8>, AllocError> {
-    let mut text = Vec::from_slice(alloc, b"{\"reports\":[")?;
-    for number in 0..count {
-        if number > 0 {
-            text.push(b',')?;
+fn order_reports(rt: HostRuntime) -> Result<(), Fail> {
+    let text = r#"{"reports":[
+        {"kind":"all_before","a":{"line":1,"var":"count","access":"write"},
+         "b":{"line":4294967295,"var":"count","access":"read","nth":4294967295,
+              "stack":[{"fn":"main","line":30},{"line":9,"nth":1,"fn":"caf\u00e9"}]}},
+        {"kind":"first_before","a":{"line":2,"var":"count","access":"read"},
+         "b":{"line":3,"var":"count","access":"write"}}]}"#;
+    let read = reports(rt.alloc(), text.as_bytes())?;
+    assert_eq!(rt; read.len(), 2);
+    assert_eq!(rt; read.as_slice().len(), 2);
+    match read.at(0) {
+        Report::AllBefore { a, b } => {
+            check_site(&rt, a, 1, Access::Write, 0);
+            check_site(&rt, b, 4294967295, Access::Read, 4294967295);
+            assert_eq!(rt; a.stack.len(), 0);
+            assert_eq!(rt; b.stack.len(), 2);
+            check_call(&rt, b.stack.at(0), "main", 30, 0);
+            check_call(&rt, b.stack.at(1), "café", 9, 1);
         }
-        text.extend_from_slice(one_report())?;
+        _ => assert!(rt; false),
     }
-    text.extend_from_slice(b"]}")?;
-    Ok(text)
-}
-
-#[test]
-fn there_are_at_most_200_reports(rt: HostRuntime) -> Result<(), Fail> {
-    let alloc = rt.alloc();
-    for (count, status, out, note) in [
-        (1usize, 0u8, COUNTER_PATCHED, b"".as_slice()),
-        (200, 7, b"", b"cfix: reports: outside the first form\n"),
-        (201, 7, b"", b"cfix: reports: more than 200\n"),
-    ] {
-        let reports = copies(alloc, count)?;
-        let ended = play(alloc, &patch(COUNTER, &reports)).expect(&rt, "memory");
-        assert_eq!(rt; ended.status, status);
-        assert_eq!(rt; ended.out.taken(), out);
-        assert_eq!(rt; ended.note.taken(), note);
+    match read.at(1) {
+        Report::FirstBefore { a, b } => {
+            check_site(&rt, a, 2, Access::Read, 0);
+            check_site(&rt, b, 3, Access::Write, 0);
+        }
+        _ => assert!(rt; false),
     }
     Ok(())
 }

@@ -13,6 +13,3 @@ pub use entries::Schedule;
 pub use input_reader::{InputFault, input};
 pub use schedule_reader::{SchedFault, schedule};
 pub use schedule_writer::schedule_text;
-
-#[cfg(test)]
-mod tests;

@@ -1,0 +1,4 @@
+int count;
+int main(void) {
+    count++;
+}

@@ -1,0 +1,4 @@
+int a;
+int main(void) {
+a++; a++;
+}
