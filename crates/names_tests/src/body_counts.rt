@@ -64,35 +64,31 @@ fn body(alloc: Global) -> Result<Items<Item>, NoMemory> {
     Ok(items)
 }
 
+// The counts of one body: its nodes stand at their tokens, an array has its length of cells, a call the line
+// of its name.
 #[test]
-fn nodes_stand_at_their_tokens(rt: HostRuntime) {
+fn nodes_cells_and_calls_are_counted(rt: HostRuntime) {
     let body = body(rt.alloc()).expect(&rt, "memory");
     let mut spots = List::new(rt.alloc());
     push_nodes(&mut spots, body.as_slice()).expect(&rt, "memory");
     assert!(rt; spots.as_slice() == [spot(1), spot(5)].as_slice());
-    let mut least = None;
-    note_excess(&mut least, 1, spots.as_slice());
-    let kind = FaultKind::Limit;
-    let spot = spot(5);
-    assert!(rt; least == Some(Fault { kind, spot }));
-}
-
-#[test]
-fn an_array_has_its_length_of_cells(rt: HostRuntime) {
-    let body = body(rt.alloc()).expect(&rt, "memory");
     let names = Table::new(rt.alloc());
     let mut cells = List::new(rt.alloc());
     push_cells(&mut cells, &names, body.as_slice()).expect(&rt, "memory");
     assert!(rt; cells.as_slice() == [(spot(1), 3)].as_slice());
-    let mut least = None;
-    note_cells(&mut least, 3, cells.as_slice());
-    assert!(rt; least == None);
-}
-
-#[test]
-fn a_call_has_the_line_of_its_name(rt: HostRuntime) {
-    let body = body(rt.alloc()).expect(&rt, "memory");
     let mut lines = List::new(rt.alloc());
     push_calls(&mut lines, body.as_slice()).expect(&rt, "memory");
     assert!(rt; lines.as_slice() == [6].as_slice());
+}
+
+#[test]
+fn what_passes_a_limit_is_noted(rt: HostRuntime) {
+    let mut least = None;
+    note_excess(&mut least, 1, [spot(1), spot(5)].as_slice());
+    let kind = FaultKind::Limit;
+    let spot = spot(5);
+    assert!(rt; least == Some(Fault { kind, spot }));
+    let mut least = None;
+    note_cells(&mut least, 3, [(Spot { at: 1, line: 2 }, 3)].as_slice());
+    assert!(rt; least == None);
 }

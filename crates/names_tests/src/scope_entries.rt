@@ -1,3 +1,4 @@
+//! A name in a table of declarations and in the scopes of a body.
 use c_scope::{Meaning, Scope, Table, Use, VarKind, use_of};
 use cfix_base::NoMemory;
 use std::alloc::Global;
@@ -15,24 +16,17 @@ fn table(alloc: Global) -> Result<Table, NoMemory> {
 }
 
 #[test]
-fn the_first_declaration_counts(rt: HostRuntime) {
+fn the_first_declaration_counts_and_a_local_hides_it(rt: HostRuntime) {
     let table = table(rt.alloc()).expect(&rt, "memory");
-    let scope = Scope::new(rt.alloc());
+    let mut scope = Scope::new(rt.alloc());
     let number = 0;
     let kind = VarKind::Int;
     assert!(rt; use_of(&table, &scope, b"x") == Use::Global { number, kind });
     assert!(rt; use_of(&table, &scope, b"y") == Use::Unknown);
-}
-
-#[test]
-fn a_local_hides_until_its_block_ends(rt: HostRuntime) {
-    let table = table(rt.alloc()).expect(&rt, "memory");
-    let mut scope = Scope::new(rt.alloc());
     let outer = scope.enter();
     let kind = VarKind::Thread;
     scope.declare(rt.alloc(), b"x", kind).expect(&rt, "memory");
     assert!(rt; scope.is_in_block(b"x"));
-    let number = 0;
     assert!(rt; use_of(&table, &scope, b"x") == Use::Local { number, kind });
     scope.leave(outer);
     let kind = VarKind::Int;
