@@ -1,66 +1,76 @@
-//! Control flow of one function of a program that is read.
+//! Control flow and calls of whole programs.
+use crate::programs::{WHOLES, Whole};
 use crate::reading::source_of;
-use crate::shown::shown_set;
-use c_prog::Program;
-use cfix_base::{FnId, NoMemory, NodeId};
-use flow_graph::{Flow, flow};
-use plan_types::NodeSet;
-use std::alloc::{AllocError, Global};
+use c_prog::{Program, node_count};
+use call_graph::calls;
+use cfix_base::{FnId, NodeId, Place};
+use flow_graph::flows;
+use std::alloc::Global;
+use std::fmt::Write;
 use std::test::Fail;
+use step_tables::Tables;
 
-// Nodes 0 to 3 are `x = 1`, the condition, `x = 2` and `x = 3`, nodes 4 and 5 the call and `x = 4`.
-const TWO: &str = r#"int x;
-void f(void) {
-    x = 1;
-    while (x) x = 2;
-    x = 3;
-}
-int main(void) {
-    f();
-    x = 4;
-}
-"#;
-
-// Control flow of the function of this number.
-fn flow_of(alloc: Global, program: &Program, number: u32) -> Option<Flow> {
-    let functions = program.tree().functions.as_slice();
-    if number as usize >= functions.len() {
-        return None;
+fn shown_flow(alloc: Global, program: &Program) -> Option<String> {
+    let mut out = String::new(alloc);
+    let flows = flows(alloc, program).ok()?;
+    for (function, flow) in flows.as_slice().iter().enumerate() {
+        match flow.first() {
+            Some(first) => write!(out, " f{function} {} of {}", first.number, flow.size()),
+            None => write!(out, " f{function} exit of {}", flow.size()),
+        }
+        .ok()?;
     }
-    flow(alloc, program, FnId { number }).ok()
-}
-
-fn reached(alloc: Global, flow: &Flow, number: u32) -> Result<NodeSet, NoMemory> {
-    let avoiding = NodeSet::empty(alloc, flow.size())?;
-    flow.reach(alloc, NodeId { number }, &avoiding)
-}
-
-// The nodes to which paths from a node lead, each behind a blank.
-fn shown_reached(alloc: Global, flow: &Flow, number: u32) -> Result<String, AllocError> {
-    match reached(alloc, flow, number) {
-        Ok(set) => shown_set(alloc, &set),
-        Err(_) => format!(in alloc; "no memory"),
+    let tables = Tables::of(alloc, program).ok()?;
+    for number in 0..node_count(program) {
+        let node = NodeId { number };
+        for (sign, place) in [
+            (">", Place::After(node)),
+            ("+", Place::True(node)),
+            ("-", Place::False(node)),
+        ] {
+            if let Some(next) = tables.next(place) {
+                write!(out, " {number}{sign}{}", next.number).ok()?;
+            }
+        }
     }
+    Some(out)
+}
+
+fn shown_calls(alloc: Global, program: &Program) -> Option<String> {
+    let mut out = String::new(alloc);
+    let calls = calls(alloc, program).ok()?;
+    for number in 0..node_count(program) {
+        let node = NodeId { number };
+        write!(out, " {number} in f{}", calls.function_of(node).number).ok()?;
+        if let Some(callee) = calls.callee(node) {
+            write!(out, " calls f{}", callee.number).ok()?;
+        }
+        if let Some(created) = calls.created(node) {
+            write!(out, " creates f{}", created.number).ok()?;
+        }
+    }
+    for number in 0..program.tree().functions.len() as u32 {
+        let of = FnId { number };
+        let root = if calls.is_root(of) { " root" } else { "" };
+        write!(out, "; f{number}{root} called by").ok()?;
+        for node in calls.callers(of) {
+            write!(out, " {}", node.number).ok()?;
+        }
+    }
+    Some(out)
 }
 
 #[test]
-fn a_function_has_its_own_flow(rt: HostRuntime) -> Result<(), Fail> {
+fn control_goes_on_and_functions_are_called(rt: HostRuntime) -> Result<(), Fail> {
     let alloc = rt.alloc();
-    let source = source_of(alloc, TWO).expect(&rt, "a source");
-    for (function, first, node, reached) in [
-        (0u32, 0u32, 0u32, " 1 2 3"),
-        (0, 0, 1, " 1 2 3"),
-        (0, 0, 2, " 1 2 3"),
-        (0, 0, 3, ""),
-        (0, 0, 4, ""),
-        (1, 4, 4, " 5"),
-        (1, 4, 5, ""),
-        (1, 4, 0, ""),
-    ] {
-        let flow = flow_of(alloc, source.program(), function).expect(&rt, "a flow");
-        assert_eq!(rt; flow.size(), 6);
-        assert_eq!(rt; flow.first(), Some(NodeId { number: first }));
-        assert_eq!(rt; shown_reached(alloc, &flow, node)?.as_str(), reached);
+    for whole in &WHOLES {
+        let Whole { flow, calls, .. } = whole;
+        let source = source_of(alloc, whole.program).expect(&rt, whole.program);
+        let program = source.program();
+        let shown = shown_flow(alloc, program).expect(&rt, "a flow");
+        assert_eq!(rt; shown.as_str(), *flow);
+        let shown = shown_calls(alloc, program).expect(&rt, "calls");
+        assert_eq!(rt; shown.as_str(), *calls);
     }
     Ok(())
 }

@@ -1,5 +1,5 @@
-//! Tests of control flow, binding and critical regions on whole texts: a program and a report are read,
-//! bound, and what comes out is compared with what follows from the rules by hand.
+//! Tests of control flow, calls, binding and critical regions on whole texts: a program and a report are
+//! read, bound, and what comes out is compared with what follows from the rules by hand.
 #![tactic(auto)]
 
 #[cfg(test)]
@@ -11,10 +11,12 @@ mod paths;
 #[cfg(test)]
 mod positions;
 #[cfg(test)]
-mod reading;
+mod programs;
 #[cfg(test)]
-mod shown;
+mod reading;
 #[cfg(test)]
 mod sites;
 #[cfg(test)]
 mod stacks;
+#[cfg(test)]
+mod walks;

@@ -1,5 +1,5 @@
-use crate::binding::{Case, holds};
-use std::test::Fail;
+//! Reports whose regions are the nodes of the paths between two accesses.
+use crate::binding::Case;
 
 // Nodes 0 to 3 are `x = 1`, the condition, `x = 2` and `z = 0`.
 const BRANCH: &str = r#"int x;
@@ -178,15 +178,14 @@ int main(void) {
 }
 "#;
 
-const CASES: [Case; 28] = [
+pub const CASES: [Case; 28] = [
     // `z = 0` is outside.
     Case {
         program: BRANCH,
         p: r#"{"line":5,"var":"x","access":"write"}"#,
         c: r#"{"line":6,"var":"x","access":"write"}"#,
         r: r#"{"line":6,"var":"x","access":"write"}"#,
-        bound: "of 0 np 0 nc 2 p 0.0 c 2.0 r 2.0 p_path c_path next",
-        region: " 0 1 2",
+        bound: "of 0 np 0 nc 2 p 0.0 c 2.0 r 2.0 p_path c_path next region 0 1 2",
     },
     Case {
         program: BRANCH,
@@ -194,23 +193,20 @@ const CASES: [Case; 28] = [
         c: r#"{"line":5,"var":"x","access":"write"}"#,
         r: r#"{"line":6,"var":"x","access":"write"}"#,
         bound: "no path from 2 to 0",
-        region: "",
     },
     Case {
         program: BRANCH,
         p: r#"{"line":5,"var":"x","access":"write"}"#,
         c: r#"{"line":7,"var":"z","access":"write"}"#,
         r: r#"{"line":6,"var":"x","access":"write"}"#,
-        bound: "of 0 np 0 nc 3 p 0.0 c 3.0 r 2.0 p_path c_path next",
-        region: " 0 1 2 3",
+        bound: "of 0 np 0 nc 3 p 0.0 c 3.0 r 2.0 p_path c_path next region 0 1 2 3",
     },
     Case {
         program: BRANCH,
         p: r#"{"line":6,"var":"y","access":"read"}"#,
         c: r#"{"line":7,"var":"z","access":"write"}"#,
         r: r#"{"line":6,"var":"x","access":"write"}"#,
-        bound: "of 0 np 1 nc 3 p 1.0 c 3.0 r 2.0 p_path c_path next",
-        region: " 1 2 3",
+        bound: "of 0 np 1 nc 3 p 1.0 c 3.0 r 2.0 p_path c_path next region 1 2 3",
     },
     Case {
         program: BRANCH,
@@ -218,7 +214,6 @@ const CASES: [Case; 28] = [
         c: r#"{"line":7,"var":"z","access":"write"}"#,
         r: r#"{"line":6,"var":"x","access":"write"}"#,
         bound: "no path from 3 to 3",
-        region: "",
     },
     // One read on two turns.
     Case {
@@ -226,8 +221,7 @@ const CASES: [Case; 28] = [
         p: r#"{"line":4,"var":"flag","access":"read"}"#,
         c: r#"{"line":4,"var":"flag","access":"read"}"#,
         r: r#"{"line":8,"var":"flag","access":"write"}"#,
-        bound: "of 1 np 0 nc 0 p 0.0 c 0.0 r 3.0 p_path c_path next",
-        region: " 0 1",
+        bound: "of 1 np 0 nc 0 p 0.0 c 0.0 r 3.0 p_path c_path next region 0 1",
     },
     // Control never leaves the loop by its condition, nor comes back to it.
     Case {
@@ -235,8 +229,7 @@ const CASES: [Case; 28] = [
         p: r#"{"line":4,"var":"x","access":"write"}"#,
         c: r#"{"line":5,"var":"x","access":"read"}"#,
         r: r#"{"line":4,"var":"x","access":"write"}"#,
-        bound: "of 0 np 1 nc 3 p 1.0 c 3.0 r 1.0 p_path c_path next",
-        region: " 1 2 3",
+        bound: "of 0 np 1 nc 3 p 1.0 c 3.0 r 1.0 p_path c_path next region 1 2 3",
     },
     Case {
         program: BREAK,
@@ -244,23 +237,20 @@ const CASES: [Case; 28] = [
         c: r#"{"line":4,"var":"x","access":"write"}"#,
         r: r#"{"line":4,"var":"x","access":"write"}"#,
         bound: "no path from 1 to 1",
-        region: "",
     },
     Case {
         program: RETURN,
         p: r#"{"line":3,"var":"x","access":"write"}"#,
         c: r#"{"line":3,"var":"x","access":"read"}"#,
         r: r#"{"line":3,"var":"x","access":"write"}"#,
-        bound: "of 0 np 0 nc 1 p 0.0 c 1.0 r 0.0 p_path c_path next",
-        region: " 0 1",
+        bound: "of 0 np 0 nc 1 p 0.0 c 1.0 r 0.0 p_path c_path next region 0 1",
     },
     Case {
         program: NESTED,
         p: r#"{"line":9,"var":"x","access":"write"}"#,
         c: r#"{"line":16,"var":"x","access":"write"}"#,
         r: r#"{"line":9,"var":"x","access":"write"}"#,
-        bound: "of 0 np 5 nc 11 p 5.0 c 11.0 r 5.0 p_path c_path next",
-        region: " 0 1 2 3 4 5 6 7 8 9 10 11",
+        bound: "of 0 np 5 nc 11 p 5.0 c 11.0 r 5.0 p_path c_path next region 0 1 2 3 4 5 6 7 8 9 10 11",
     },
     // The continue of the inner loop goes to its step.
     Case {
@@ -268,16 +258,14 @@ const CASES: [Case; 28] = [
         p: r#"{"line":8,"var":"c","access":"read"}"#,
         c: r#"{"line":7,"var":"c","access":"read"}"#,
         r: r#"{"line":9,"var":"x","access":"write"}"#,
-        bound: "of 0 np 3 nc 2 p 3.0 c 2.0 r 5.0 p_path c_path next",
-        region: " 2 3 4",
+        bound: "of 0 np 3 nc 2 p 3.0 c 2.0 r 5.0 p_path c_path next region 2 3 4",
     },
     Case {
         program: NESTED,
         p: r#"{"line":7,"var":"c","access":"write"}"#,
         c: r#"{"line":8,"var":"c","access":"read"}"#,
         r: r#"{"line":9,"var":"x","access":"write"}"#,
-        bound: "of 0 np 2 nc 3 p 2.1 c 3.0 r 5.0 p_path c_path next",
-        region: " 0 1 2 3 7 9 10",
+        bound: "of 0 np 2 nc 3 p 2.1 c 3.0 r 5.0 p_path c_path next region 0 1 2 3 7 9 10",
     },
     // That of the outer loop goes to its condition.
     Case {
@@ -285,16 +273,14 @@ const CASES: [Case; 28] = [
         p: r#"{"line":13,"var":"a","access":"write"}"#,
         c: r#"{"line":6,"var":"a","access":"read"}"#,
         r: r#"{"line":9,"var":"x","access":"write"}"#,
-        bound: "of 0 np 9 nc 0 p 9.0 c 0.0 r 5.0 p_path c_path next",
-        region: " 0 9 10",
+        bound: "of 0 np 9 nc 0 p 9.0 c 0.0 r 5.0 p_path c_path next region 0 9 10",
     },
     Case {
         program: NESTED,
         p: r#"{"line":12,"var":"x","access":"read"}"#,
         c: r#"{"line":12,"var":"x","access":"read"}"#,
         r: r#"{"line":9,"var":"x","access":"write"}"#,
-        bound: "of 0 np 7 nc 7 p 7.0 c 7.0 r 5.0 p_path c_path next",
-        region: " 0 1 2 3 4 5 6 7 9 10",
+        bound: "of 0 np 7 nc 7 p 7.0 c 7.0 r 5.0 p_path c_path next region 0 1 2 3 4 5 6 7 9 10",
     },
     Case {
         program: NESTED,
@@ -302,7 +288,6 @@ const CASES: [Case; 28] = [
         c: r#"{"line":9,"var":"x","access":"write"}"#,
         r: r#"{"line":9,"var":"x","access":"write"}"#,
         bound: "no path from 11 to 5",
-        region: "",
     },
     // No path takes a place that is dead.
     Case {
@@ -310,8 +295,7 @@ const CASES: [Case; 28] = [
         p: r#"{"line":3,"var":"x","access":"write"}"#,
         c: r#"{"line":8,"var":"x","access":"write"}"#,
         r: r#"{"line":3,"var":"x","access":"write"}"#,
-        bound: "of 0 np 0 nc 9 p 0.0 c 9.0 r 0.0 p_path c_path next",
-        region: " 0 1 3 5 6 8 9",
+        bound: "of 0 np 0 nc 9 p 0.0 c 9.0 r 0.0 p_path c_path next region 0 1 3 5 6 8 9",
     },
     Case {
         program: NUMBERS,
@@ -319,7 +303,6 @@ const CASES: [Case; 28] = [
         c: r#"{"line":4,"var":"x","access":"write"}"#,
         r: r#"{"line":3,"var":"x","access":"write"}"#,
         bound: "no path from 0 to 2",
-        region: "",
     },
     Case {
         program: NUMBERS,
@@ -327,7 +310,6 @@ const CASES: [Case; 28] = [
         c: r#"{"line":7,"var":"x","access":"write"}"#,
         r: r#"{"line":3,"var":"x","access":"write"}"#,
         bound: "no path from 0 to 7",
-        region: "",
     },
     // Paths begin also at nodes that control never meets.
     Case {
@@ -335,8 +317,7 @@ const CASES: [Case; 28] = [
         p: r#"{"line":4,"var":"x","access":"write"}"#,
         c: r#"{"line":6,"var":"x","access":"write"}"#,
         r: r#"{"line":3,"var":"x","access":"write"}"#,
-        bound: "of 0 np 2 nc 6 p 2.0 c 6.0 r 0.0 p_path c_path next",
-        region: " 2 3 5 6",
+        bound: "of 0 np 2 nc 6 p 2.0 c 6.0 r 0.0 p_path c_path next region 2 3 5 6",
     },
     Case {
         program: NUMBERS,
@@ -344,23 +325,20 @@ const CASES: [Case; 28] = [
         c: r#"{"line":5,"var":"x","access":"write"}"#,
         r: r#"{"line":3,"var":"x","access":"write"}"#,
         bound: "no path from 4 to 4",
-        region: "",
     },
     Case {
         program: NUMBERS,
         p: r#"{"line":7,"var":"x","access":"write"}"#,
         c: r#"{"line":8,"var":"x","access":"write"}"#,
         r: r#"{"line":3,"var":"x","access":"write"}"#,
-        bound: "of 0 np 7 nc 9 p 7.0 c 9.0 r 0.0 p_path c_path next",
-        region: " 7 8 9",
+        bound: "of 0 np 7 nc 9 p 7.0 c 9.0 r 0.0 p_path c_path next region 7 8 9",
     },
     Case {
         program: NUMBERS,
         p: r#"{"line":8,"var":"x","access":"write"}"#,
         c: r#"{"line":8,"var":"x","access":"write"}"#,
         r: r#"{"line":3,"var":"x","access":"write"}"#,
-        bound: "of 0 np 9 nc 9 p 9.0 c 9.0 r 0.0 p_path c_path next",
-        region: " 8 9",
+        bound: "of 0 np 9 nc 9 p 9.0 c 9.0 r 0.0 p_path c_path next region 8 9",
     },
     // Both places of a condition lead to one node.
     Case {
@@ -368,16 +346,14 @@ const CASES: [Case; 28] = [
         p: r#"{"line":4,"var":"x","access":"write"}"#,
         c: r#"{"line":6,"var":"x","access":"write"}"#,
         r: r#"{"line":8,"var":"x","access":"write"}"#,
-        bound: "of 0 np 0 nc 2 p 0.0 c 2.0 r 4.0 p_path c_path next",
-        region: " 0 1 2",
+        bound: "of 0 np 0 nc 2 p 0.0 c 2.0 r 4.0 p_path c_path next region 0 1 2",
     },
     Case {
         program: MEET,
         p: r#"{"line":5,"var":"y","access":"read"}"#,
         c: r#"{"line":6,"var":"x","access":"write"}"#,
         r: r#"{"line":8,"var":"x","access":"write"}"#,
-        bound: "of 0 np 1 nc 2 p 1.0 c 2.0 r 4.0 p_path c_path next",
-        region: " 1 2",
+        bound: "of 0 np 1 nc 2 p 1.0 c 2.0 r 4.0 p_path c_path next region 1 2",
     },
     // A loop of one node.
     Case {
@@ -385,8 +361,7 @@ const CASES: [Case; 28] = [
         p: r#"{"line":7,"var":"y","access":"read"}"#,
         c: r#"{"line":7,"var":"y","access":"read"}"#,
         r: r#"{"line":8,"var":"x","access":"write"}"#,
-        bound: "of 0 np 3 nc 3 p 3.0 c 3.0 r 4.0 p_path c_path next",
-        region: " 3",
+        bound: "of 0 np 3 nc 3 p 3.0 c 3.0 r 4.0 p_path c_path next region 3",
     },
     // A return leaves the loop, and the function.
     Case {
@@ -394,16 +369,14 @@ const CASES: [Case; 28] = [
         p: r#"{"line":5,"var":"x","access":"write"}"#,
         c: r#"{"line":6,"var":"x","access":"read"}"#,
         r: r#"{"line":5,"var":"x","access":"write"}"#,
-        bound: "of 0 np 1 nc 3 p 1.0 c 3.0 r 1.0 p_path c_path next",
-        region: " 1 2 3",
+        bound: "of 0 np 1 nc 3 p 1.0 c 3.0 r 1.0 p_path c_path next region 1 2 3",
     },
     Case {
         program: EXITS,
         p: r#"{"line":5,"var":"x","access":"write"}"#,
         c: r#"{"line":9,"var":"x","access":"read"}"#,
         r: r#"{"line":5,"var":"x","access":"write"}"#,
-        bound: "of 0 np 1 nc 5 p 1.0 c 5.0 r 1.0 p_path c_path next",
-        region: " 0 1 2 4 5",
+        bound: "of 0 np 1 nc 5 p 1.0 c 5.0 r 1.0 p_path c_path next region 0 1 2 4 5",
     },
     Case {
         program: EXITS,
@@ -411,20 +384,5 @@ const CASES: [Case; 28] = [
         c: r#"{"line":9,"var":"x","access":"read"}"#,
         r: r#"{"line":5,"var":"x","access":"write"}"#,
         bound: "no path from 3 to 5",
-        region: "",
     },
 ];
-
-#[test]
-fn a_region_is_the_nodes_of_paths_between(rt: HostRuntime) -> Result<(), Fail> {
-    for case in &CASES {
-        assert!(rt;
-            holds(rt.alloc(), case)?,
-            "{} {} {}",
-            case.p,
-            case.c,
-            case.r
-        );
-    }
-    Ok(())
-}

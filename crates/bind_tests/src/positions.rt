@@ -1,5 +1,5 @@
-use crate::binding::{Case, holds};
-use std::test::Fail;
+//! Reports whose accesses stand at a call or below it.
+use crate::binding::Case;
 
 // Nodes 0 and 1 stand in add, and node 2 is `x = add(x)`: it reads x as 2.0, calls, and writes x as 2.1. Node
 // 6 is `x = 5`.
@@ -42,15 +42,14 @@ int main(void) {
 }
 "#;
 
-const CASES: [Case; 14] = [
+pub const CASES: [Case; 14] = [
     // Both accesses in one call node.
     Case {
         program: ONCE,
         p: r#"{"line":7,"var":"x","access":"read"}"#,
         c: r#"{"line":7,"var":"x","access":"write"}"#,
         r: r#"{"line":13,"var":"x","access":"write"}"#,
-        bound: "of 1 np 2 nc 2 p 2.0 c 2.1 r 6.0 p_path c_path same",
-        region: " 2",
+        bound: "of 1 np 2 nc 2 p 2.0 c 2.1 r 6.0 p_path c_path same region 2",
     },
     Case {
         program: ONCE,
@@ -58,7 +57,6 @@ const CASES: [Case; 14] = [
         c: r#"{"line":7,"var":"x","access":"read"}"#,
         r: r#"{"line":13,"var":"x","access":"write"}"#,
         bound: "no path from 2 to 2",
-        region: "",
     },
     // An access in an argument comes before what is below the call.
     Case {
@@ -66,8 +64,7 @@ const CASES: [Case; 14] = [
         p: r#"{"line":7,"var":"x","access":"read"}"#,
         c: r#"{"line":3,"var":"x","access":"write","stack":[{"fn":"worker","line":7}]}"#,
         r: r#"{"line":13,"var":"x","access":"write"}"#,
-        bound: "of 1 np 2 nc 2 p 2.0 c 0.0 r 6.0 p_path c_path 2 same",
-        region: " 2",
+        bound: "of 1 np 2 nc 2 p 2.0 c 0.0 r 6.0 p_path c_path 2 same region 2",
     },
     Case {
         program: ONCE,
@@ -75,7 +72,6 @@ const CASES: [Case; 14] = [
         c: r#"{"line":7,"var":"x","access":"read"}"#,
         r: r#"{"line":13,"var":"x","access":"write"}"#,
         bound: "no path from 2 to 2",
-        region: "",
     },
     // The target of a call is written behind what is below the call.
     Case {
@@ -83,8 +79,7 @@ const CASES: [Case; 14] = [
         p: r#"{"line":4,"var":"x","access":"read","stack":[{"fn":"worker","line":7}]}"#,
         c: r#"{"line":7,"var":"x","access":"write"}"#,
         r: r#"{"line":13,"var":"x","access":"write"}"#,
-        bound: "of 1 np 2 nc 2 p 1.0 c 2.1 r 6.0 p_path 2 c_path same",
-        region: " 2",
+        bound: "of 1 np 2 nc 2 p 1.0 c 2.1 r 6.0 p_path 2 c_path same region 2",
     },
     Case {
         program: ONCE,
@@ -92,7 +87,6 @@ const CASES: [Case; 14] = [
         c: r#"{"line":4,"var":"x","access":"read","stack":[{"fn":"worker","line":7}]}"#,
         r: r#"{"line":13,"var":"x","access":"write"}"#,
         bound: "no path from 2 to 2",
-        region: "",
     },
     // Both below one call.
     Case {
@@ -100,24 +94,21 @@ const CASES: [Case; 14] = [
         p: r#"{"line":3,"var":"x","access":"write","stack":[{"fn":"worker","line":7}]}"#,
         c: r#"{"line":4,"var":"x","access":"read","stack":[{"fn":"worker","line":7}]}"#,
         r: r#"{"line":13,"var":"x","access":"write"}"#,
-        bound: "of 0 np 0 nc 1 p 0.0 c 1.0 r 6.0 p_path c_path next",
-        region: " 0 1",
+        bound: "of 0 np 0 nc 1 p 0.0 c 1.0 r 6.0 p_path c_path next region 0 1",
     },
     Case {
         program: TURNS,
         p: r#"{"line":7,"var":"x","access":"read"}"#,
         c: r#"{"line":3,"var":"x","access":"read","stack":[{"fn":"worker","line":7}]}"#,
         r: r#"{"line":14,"var":"x","access":"write"}"#,
-        bound: "of 1 np 4 nc 4 p 4.0 c 0.0 r 8.0 p_path c_path 4 same",
-        region: " 4",
+        bound: "of 1 np 4 nc 4 p 4.0 c 0.0 r 8.0 p_path c_path 4 same region 4",
     },
     Case {
         program: TURNS,
         p: r#"{"line":3,"var":"x","access":"read","stack":[{"fn":"worker","line":7}]}"#,
         c: r#"{"line":7,"var":"x","access":"write"}"#,
         r: r#"{"line":14,"var":"x","access":"write"}"#,
-        bound: "of 1 np 4 nc 4 p 0.0 c 4.1 r 8.0 p_path 4 c_path same",
-        region: " 4",
+        bound: "of 1 np 4 nc 4 p 0.0 c 4.1 r 8.0 p_path 4 c_path same region 4",
     },
     // Not in one visit: the next turn of the loop.
     Case {
@@ -125,24 +116,21 @@ const CASES: [Case; 14] = [
         p: r#"{"line":7,"var":"x","access":"write"}"#,
         c: r#"{"line":3,"var":"x","access":"read","stack":[{"fn":"worker","line":7}]}"#,
         r: r#"{"line":14,"var":"x","access":"write"}"#,
-        bound: "of 1 np 4 nc 4 p 4.1 c 0.0 r 8.0 p_path c_path 4 next",
-        region: " 2 3 4",
+        bound: "of 1 np 4 nc 4 p 4.1 c 0.0 r 8.0 p_path c_path 4 next region 2 3 4",
     },
     Case {
         program: TURNS,
         p: r#"{"line":3,"var":"x","access":"read","stack":[{"fn":"worker","line":7}]}"#,
         c: r#"{"line":7,"var":"x","access":"read"}"#,
         r: r#"{"line":14,"var":"x","access":"write"}"#,
-        bound: "of 1 np 4 nc 4 p 0.0 c 4.0 r 8.0 p_path 4 c_path next",
-        region: " 2 3 4",
+        bound: "of 1 np 4 nc 4 p 0.0 c 4.0 r 8.0 p_path 4 c_path next region 2 3 4",
     },
     Case {
         program: TURNS,
         p: r#"{"line":7,"var":"x","access":"write"}"#,
         c: r#"{"line":7,"var":"x","access":"read"}"#,
         r: r#"{"line":14,"var":"x","access":"write"}"#,
-        bound: "of 1 np 4 nc 4 p 4.1 c 4.0 r 8.0 p_path c_path next",
-        region: " 2 3 4",
+        bound: "of 1 np 4 nc 4 p 4.1 c 4.0 r 8.0 p_path c_path next region 2 3 4",
     },
     // One access on two turns.
     Case {
@@ -150,8 +138,7 @@ const CASES: [Case; 14] = [
         p: r#"{"line":7,"var":"x","access":"read"}"#,
         c: r#"{"line":7,"var":"x","access":"read"}"#,
         r: r#"{"line":14,"var":"x","access":"write"}"#,
-        bound: "of 1 np 4 nc 4 p 4.0 c 4.0 r 8.0 p_path c_path next",
-        region: " 2 3 4",
+        bound: "of 1 np 4 nc 4 p 4.0 c 4.0 r 8.0 p_path c_path next region 2 3 4",
     },
     Case {
         program: TURNS,
@@ -159,20 +146,5 @@ const CASES: [Case; 14] = [
         c: r#"{"line":3,"var":"x","access":"read","stack":[{"fn":"worker","line":7}]}"#,
         r: r#"{"line":14,"var":"x","access":"write"}"#,
         bound: "no path from 0 to 0",
-        region: "",
     },
 ];
-
-#[test]
-fn an_access_below_a_call_stands_at_the_call(rt: HostRuntime) -> Result<(), Fail> {
-    for case in &CASES {
-        assert!(rt;
-            holds(rt.alloc(), case)?,
-            "{} {} {}",
-            case.p,
-            case.c,
-            case.r
-        );
-    }
-    Ok(())
-}

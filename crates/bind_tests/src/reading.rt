@@ -1,8 +1,9 @@
 use c_prog::Source;
 use c_read::read_source;
-use cfix_base::MAX_SOURCE_BYTES;
-use report_json::{Reports, reports};
-use std::alloc::{AllocError, Global};
+use cfix_base::{MAX_SOURCE_BYTES, NodeId};
+use plan_types::NodeSet;
+use std::alloc::Global;
+use std::fmt::Write;
 
 /// The source that a text spells, if it spells one within the limits.
 pub fn source_of(alloc: Global, text: &str) -> Option<Source> {
@@ -13,10 +14,13 @@ pub fn source_of(alloc: Global, text: &str) -> Option<Source> {
     read_source(alloc, bytes).ok()
 }
 
-/// One atomicity report of these sites, if they are sites.
-pub fn report_of(alloc: Global, p: &str, c: &str, r: &str) -> Result<Option<Reports>, AllocError> {
-    let text = format!(in alloc;
-        r#"{{"reports":[{{"kind":"atomicity","p":{p},"c":{c},"r":{r}}}]}}"#
-    )?;
-    Ok(reports(alloc, text.as_bytes()).ok())
+/// The nodes of a set, each behind a blank.
+pub fn shown_set(alloc: Global, set: &NodeSet) -> Option<String> {
+    let mut out = String::new(alloc);
+    for number in 0..set.size() {
+        if set.contains(NodeId { number }) {
+            write!(out, " {number}").ok()?;
+        }
+    }
+    Some(out)
 }

@@ -1,5 +1,5 @@
-use crate::binding::{Case, holds};
-use std::test::Fail;
+//! Reports whose stacks are calls from a root inwards.
+use crate::binding::Case;
 
 // Functions 0 to 3 are get, put, worker and main. Nodes 0 and 1 are the writes in get and put, nodes 2 and 3
 // the calls in worker, and node 7 is `x = 3`.
@@ -78,22 +78,20 @@ int main(void) {
 }
 "#;
 
-const CASES: [Case; 28] = [
+pub const CASES: [Case; 28] = [
     Case {
         program: CALLER,
         p: r#"{"line":2,"var":"x","access":"write","stack":[{"fn":"worker","line":5}]}"#,
         c: r#"{"line":3,"var":"x","access":"write","stack":[{"fn":"worker","line":6}]}"#,
         r: r#"{"line":12,"var":"x","access":"write"}"#,
-        bound: "of 2 np 2 nc 3 p 0.0 c 1.0 r 7.0 p_path 2 c_path 3 next",
-        region: " 2 3",
+        bound: "of 2 np 2 nc 3 p 0.0 c 1.0 r 7.0 p_path 2 c_path 3 next region 2 3",
     },
     Case {
         program: CALLER,
         p: r#"{"line":2,"var":"x","access":"write","stack":[{"fn":"worker","line":5}]}"#,
         c: r#"{"line":3,"var":"x","access":"write","stack":[{"fn":"worker","line":6}]}"#,
         r: r#"{"line":2,"var":"x","access":"write"}"#,
-        bound: "of 2 np 2 nc 3 p 0.0 c 1.0 r 0.0 p_path 2 c_path 3 next",
-        region: " 2 3",
+        bound: "of 2 np 2 nc 3 p 0.0 c 1.0 r 0.0 p_path 2 c_path 3 next region 2 3",
     },
     // The stack of r is not looked at.
     Case {
@@ -101,8 +99,7 @@ const CASES: [Case; 28] = [
         p: r#"{"line":2,"var":"x","access":"write","stack":[{"fn":"worker","line":5}]}"#,
         c: r#"{"line":3,"var":"x","access":"write","stack":[{"fn":"worker","line":6}]}"#,
         r: r#"{"line":12,"var":"x","access":"write","stack":[{"fn":"nobody","line":1}]}"#,
-        bound: "of 2 np 2 nc 3 p 0.0 c 1.0 r 7.0 p_path 2 c_path 3 next",
-        region: " 2 3",
+        bound: "of 2 np 2 nc 3 p 0.0 c 1.0 r 7.0 p_path 2 c_path 3 next region 2 3",
     },
     // Line 6 calls another function.
     Case {
@@ -110,16 +107,14 @@ const CASES: [Case; 28] = [
         p: r#"{"line":2,"var":"x","access":"write","stack":[{"fn":"worker","line":6}]}"#,
         c: r#"{"line":3,"var":"x","access":"write","stack":[{"fn":"worker","line":6}]}"#,
         r: r#"{"line":12,"var":"x","access":"write"}"#,
-        bound: "broken stack of p",
-        region: "",
+        bound: "broken stack of P",
     },
     Case {
         program: CALLER,
         p: r#"{"line":2,"var":"x","access":"write","stack":[{"fn":"worker","line":5}]}"#,
         c: r#"{"line":3,"var":"x","access":"write","stack":[{"fn":"worker","line":5}]}"#,
         r: r#"{"line":12,"var":"x","access":"write"}"#,
-        bound: "broken stack of c",
-        region: "",
+        bound: "broken stack of C",
     },
     // The line has one call.
     Case {
@@ -127,16 +122,14 @@ const CASES: [Case; 28] = [
         p: r#"{"line":2,"var":"x","access":"write","stack":[{"fn":"worker","line":5,"nth":1}]}"#,
         c: r#"{"line":3,"var":"x","access":"write","stack":[{"fn":"worker","line":6}]}"#,
         r: r#"{"line":12,"var":"x","access":"write"}"#,
-        bound: "broken stack of p",
-        region: "",
+        bound: "broken stack of P",
     },
     Case {
         program: CALLER,
         p: r#"{"line":2,"var":"x","access":"write","stack":[{"fn":"worker","line":4}]}"#,
         c: r#"{"line":3,"var":"x","access":"write","stack":[{"fn":"worker","line":6}]}"#,
         r: r#"{"line":12,"var":"x","access":"write"}"#,
-        bound: "broken stack of p",
-        region: "",
+        bound: "broken stack of P",
     },
     // The call stands in another function.
     Case {
@@ -144,8 +137,7 @@ const CASES: [Case; 28] = [
         p: r#"{"line":2,"var":"x","access":"write","stack":[{"fn":"main","line":5}]}"#,
         c: r#"{"line":3,"var":"x","access":"write","stack":[{"fn":"worker","line":6}]}"#,
         r: r#"{"line":12,"var":"x","access":"write"}"#,
-        bound: "broken stack of p",
-        region: "",
+        bound: "broken stack of P",
     },
     // No function of the program has the name.
     Case {
@@ -153,16 +145,14 @@ const CASES: [Case; 28] = [
         p: r#"{"line":2,"var":"x","access":"write","stack":[{"fn":"nobody","line":5}]}"#,
         c: r#"{"line":3,"var":"x","access":"write","stack":[{"fn":"worker","line":6}]}"#,
         r: r#"{"line":12,"var":"x","access":"write"}"#,
-        bound: "broken stack of p",
-        region: "",
+        bound: "broken stack of P",
     },
     Case {
         program: CALLER,
         p: r#"{"line":2,"var":"x","access":"write","stack":[{"fn":"worker","line":5}]}"#,
         c: r#"{"line":3,"var":"x","access":"write","stack":[{"fn":"worker","line":6},{"fn":"nobody","line":3}]}"#,
         r: r#"{"line":12,"var":"x","access":"write"}"#,
-        bound: "broken stack of c",
-        region: "",
+        bound: "broken stack of C",
     },
     // The creation of a thread is no call.
     Case {
@@ -170,8 +160,7 @@ const CASES: [Case; 28] = [
         p: r#"{"line":2,"var":"x","access":"write","stack":[{"fn":"main","line":11},{"fn":"worker","line":5}]}"#,
         c: r#"{"line":3,"var":"x","access":"write","stack":[{"fn":"worker","line":6}]}"#,
         r: r#"{"line":12,"var":"x","access":"write"}"#,
-        bound: "broken stack of p",
-        region: "",
+        bound: "broken stack of P",
     },
     // Sites come before stacks, and the stack of p before that of c.
     Case {
@@ -179,16 +168,14 @@ const CASES: [Case; 28] = [
         p: r#"{"line":2,"var":"x","access":"write","stack":[{"fn":"worker","line":6}]}"#,
         c: r#"{"line":3,"var":"x","access":"write","stack":[{"fn":"worker","line":5}]}"#,
         r: r#"{"line":5,"var":"x","access":"write"}"#,
-        bound: "no site for r",
-        region: "",
+        bound: "no site for R",
     },
     Case {
         program: CALLER,
         p: r#"{"line":2,"var":"x","access":"write","stack":[{"fn":"worker","line":6}]}"#,
         c: r#"{"line":3,"var":"x","access":"write","stack":[{"fn":"worker","line":5}]}"#,
         r: r#"{"line":12,"var":"x","access":"write"}"#,
-        bound: "broken stack of p",
-        region: "",
+        bound: "broken stack of P",
     },
     // The outermost functions differ: get and put, worker and put, get and worker, main and worker.
     Case {
@@ -196,32 +183,28 @@ const CASES: [Case; 28] = [
         p: r#"{"line":2,"var":"x","access":"write"}"#,
         c: r#"{"line":3,"var":"x","access":"write"}"#,
         r: r#"{"line":12,"var":"x","access":"write"}"#,
-        bound: "broken stack of c",
-        region: "",
+        bound: "broken stack of C",
     },
     Case {
         program: CALLER,
         p: r#"{"line":2,"var":"x","access":"write","stack":[{"fn":"worker","line":5}]}"#,
         c: r#"{"line":3,"var":"x","access":"write"}"#,
         r: r#"{"line":12,"var":"x","access":"write"}"#,
-        bound: "broken stack of c",
-        region: "",
+        bound: "broken stack of C",
     },
     Case {
         program: CALLER,
         p: r#"{"line":2,"var":"x","access":"write"}"#,
         c: r#"{"line":3,"var":"x","access":"write","stack":[{"fn":"worker","line":6}]}"#,
         r: r#"{"line":12,"var":"x","access":"write"}"#,
-        bound: "broken stack of c",
-        region: "",
+        bound: "broken stack of C",
     },
     Case {
         program: CALLER,
         p: r#"{"line":12,"var":"x","access":"write"}"#,
         c: r#"{"line":3,"var":"x","access":"write","stack":[{"fn":"worker","line":6}]}"#,
         r: r#"{"line":12,"var":"x","access":"write"}"#,
-        bound: "broken stack of c",
-        region: "",
+        bound: "broken stack of C",
     },
     // One stack leads to get, with its one node.
     Case {
@@ -230,7 +213,6 @@ const CASES: [Case; 28] = [
         c: r#"{"line":2,"var":"x","access":"write","stack":[{"fn":"worker","line":5}]}"#,
         r: r#"{"line":12,"var":"x","access":"write"}"#,
         bound: "no path from 0 to 0",
-        region: "",
     },
     Case {
         program: BOTH,
@@ -238,7 +220,6 @@ const CASES: [Case; 28] = [
         c: r#"{"line":3,"var":"x","access":"write","stack":[{"fn":"both","line":4}]}"#,
         r: r#"{"line":12,"var":"x","access":"write"}"#,
         bound: "2 is no root",
-        region: "",
     },
     // The longest common front of the stacks is the call of both.
     Case {
@@ -246,8 +227,7 @@ const CASES: [Case; 28] = [
         p: r#"{"line":2,"var":"x","access":"write","stack":[{"fn":"worker","line":6},{"fn":"both","line":4}]}"#,
         c: r#"{"line":3,"var":"x","access":"write","stack":[{"fn":"worker","line":6},{"fn":"both","line":4}]}"#,
         r: r#"{"line":12,"var":"x","access":"write"}"#,
-        bound: "of 2 np 2 nc 3 p 0.0 c 1.0 r 8.0 p_path 2 c_path 3 next",
-        region: " 2 3",
+        bound: "of 2 np 2 nc 3 p 0.0 c 1.0 r 8.0 p_path 2 c_path 3 next region 2 3",
     },
     Case {
         program: BOTH,
@@ -255,39 +235,34 @@ const CASES: [Case; 28] = [
         c: r#"{"line":2,"var":"x","access":"write","stack":[{"fn":"worker","line":6},{"fn":"both","line":4}]}"#,
         r: r#"{"line":12,"var":"x","access":"write"}"#,
         bound: "no path from 3 to 2",
-        region: "",
     },
     Case {
         program: DEEP,
         p: r#"{"line":3,"var":"x","access":"read","stack":[{"fn":"worker","line":7},{"fn":"top","line":5},{"fn":"mid","line":4}]}"#,
         c: r#"{"line":3,"var":"x","access":"read","stack":[{"fn":"worker","line":7},{"fn":"top","line":5},{"fn":"mid","line":4,"nth":1}]}"#,
         r: r#"{"line":14,"var":"x","access":"write"}"#,
-        bound: "of 1 np 1 nc 2 p 0.0 c 0.0 r 10.0 p_path 1 c_path 2 next",
-        region: " 1 2",
+        bound: "of 1 np 1 nc 2 p 0.0 c 0.0 r 10.0 p_path 1 c_path 2 next region 1 2",
     },
     Case {
         program: DEEP,
         p: r#"{"line":3,"var":"x","access":"read","stack":[{"fn":"worker","line":7},{"fn":"top","line":5},{"fn":"mid","line":4}]}"#,
         c: r#"{"line":3,"var":"x","access":"read","stack":[{"fn":"worker","line":7},{"fn":"top","line":5,"nth":1},{"fn":"mid","line":4}]}"#,
         r: r#"{"line":14,"var":"x","access":"write"}"#,
-        bound: "of 2 np 3 nc 4 p 0.0 c 0.0 r 10.0 p_path 3 1 c_path 4 1 next",
-        region: " 3 4",
+        bound: "of 2 np 3 nc 4 p 0.0 c 0.0 r 10.0 p_path 3 1 c_path 4 1 next region 3 4",
     },
     Case {
         program: DEEP,
         p: r#"{"line":3,"var":"x","access":"read","stack":[{"fn":"worker","line":7},{"fn":"top","line":5},{"fn":"mid","line":4,"nth":1}]}"#,
         c: r#"{"line":8,"var":"x","access":"write"}"#,
         r: r#"{"line":14,"var":"x","access":"write"}"#,
-        bound: "of 3 np 5 nc 6 p 0.0 c 6.0 r 10.0 p_path 5 3 2 c_path next",
-        region: " 5 6",
+        bound: "of 3 np 5 nc 6 p 0.0 c 6.0 r 10.0 p_path 5 3 2 c_path next region 5 6",
     },
     Case {
         program: DEEP,
         p: r#"{"line":3,"var":"x","access":"read","stack":[{"fn":"worker","line":7},{"fn":"top","line":5},{"fn":"mid","line":4,"nth":2}]}"#,
         c: r#"{"line":8,"var":"x","access":"write"}"#,
         r: r#"{"line":14,"var":"x","access":"write"}"#,
-        bound: "broken stack of p",
-        region: "",
+        bound: "broken stack of P",
     },
     // A call is left out.
     Case {
@@ -295,8 +270,7 @@ const CASES: [Case; 28] = [
         p: r#"{"line":3,"var":"x","access":"read","stack":[{"fn":"worker","line":7},{"fn":"mid","line":4}]}"#,
         c: r#"{"line":8,"var":"x","access":"write"}"#,
         r: r#"{"line":14,"var":"x","access":"write"}"#,
-        bound: "broken stack of p",
-        region: "",
+        bound: "broken stack of P",
     },
     Case {
         program: DEEP,
@@ -304,7 +278,6 @@ const CASES: [Case; 28] = [
         c: r#"{"line":3,"var":"x","access":"read","stack":[{"fn":"top","line":5,"nth":1},{"fn":"mid","line":4}]}"#,
         r: r#"{"line":14,"var":"x","access":"write"}"#,
         bound: "2 is no root",
-        region: "",
     },
     // A function that calls itself.
     Case {
@@ -312,21 +285,6 @@ const CASES: [Case; 28] = [
         p: r#"{"line":4,"var":"x","access":"write","stack":[{"fn":"worker","line":7},{"fn":"down","line":3}]}"#,
         c: r#"{"line":4,"var":"x","access":"write","stack":[{"fn":"worker","line":7}]}"#,
         r: r#"{"line":4,"var":"x","access":"write"}"#,
-        bound: "of 0 np 1 nc 2 p 2.0 c 2.0 r 2.0 p_path 1 c_path next",
-        region: " 1 2",
+        bound: "of 0 np 1 nc 2 p 2.0 c 2.0 r 2.0 p_path 1 c_path next region 1 2",
     },
 ];
-
-#[test]
-fn a_stack_is_calls_from_a_root_inwards(rt: HostRuntime) -> Result<(), Fail> {
-    for case in &CASES {
-        assert!(rt;
-            holds(rt.alloc(), case)?,
-            "{} {} {}",
-            case.p,
-            case.c,
-            case.r
-        );
-    }
-    Ok(())
-}

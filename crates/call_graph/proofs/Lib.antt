@@ -2,4 +2,3 @@ pub mod SiteLaws
 pub mod Pushes
 pub mod CallersKept
 pub mod CreationsKept
-pub mod SampleValid

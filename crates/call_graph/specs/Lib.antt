@@ -2,4 +2,3 @@ pub mod Sites
 pub mod Calls
 pub mod Chains
 pub mod Kept
-pub mod Samples

@@ -5,13 +5,9 @@ mod build;
 mod callers;
 mod created;
 mod mains;
-#[cfg(test)]
-mod samples;
 mod site;
 mod sites;
 mod table;
-#[cfg(test)]
-mod tests;
 
 pub use build::calls;
 pub use table::Calls;

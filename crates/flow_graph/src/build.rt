@@ -231,7 +231,7 @@ fn add_all(
 
 /// Control flow of the function with this number, from the number of its first node, in a program
 /// with so many nodes.
-pub(crate) fn function_flow(
+fn function_flow(
     alloc: Global,
     function: &Function,
     number: u32,

@@ -111,7 +111,7 @@ impl Flow {
         }
     }
 
-    pub(crate) fn next_in(&self, place: Place) -> Option<Option<u32>>
+    fn next_in(&self, place: Place) -> Option<Option<u32>>
         ensures { result ≡ next_at place self.now.ways }
     {
         match place {

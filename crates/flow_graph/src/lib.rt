@@ -12,8 +12,6 @@ mod inner_sizes;
 mod links;
 mod sizes;
 mod table;
-#[cfg(test)]
-mod tests;
 mod walk;
 
 pub use build::{flow, flows};
