@@ -7,6 +7,8 @@ mod failing;
 #[cfg(test)]
 mod outside;
 #[cfg(test)]
+mod programs;
+#[cfg(test)]
 mod reports;
 #[cfg(test)]
 mod scene;

@@ -1,10 +1,109 @@
-use crate::reading::source;
-use c_prog::{Program, copy, is_patched, same, strip};
-use cfix_base::NoMemory;
+//! Programs where no command shows them: accesses of nodes, copies, comparison, stripping.
+use c_prog::{Program, Source, accesses, copy, is_patched, node_count, same, strip};
+use c_read::read_source;
+use cfix_base::{Access, MAX_SOURCE_BYTES, NoMemory, NodeId};
 use std::alloc::Global;
 use std::test::Fail;
 
-/// Texts with operations, and the texts without them.
+// The source that a text spells, unless it is refused.
+fn source(alloc: Global, text: &str) -> Option<Source> {
+    let bytes = text.as_bytes();
+    if bytes.len() > MAX_SOURCE_BYTES {
+        return None;
+    }
+    read_source(alloc, bytes).ok()
+}
+
+// Adds each access of a node behind a blank: `r` or `w`, the number of its variable, and `?` where it
+// is not certain. An access whose number is not its place in the node is marked by `!`.
+fn add_accesses(
+    alloc: Global,
+    program: &Program,
+    node: NodeId,
+    text: &mut String,
+) -> Result<(), NoMemory> {
+    let list = accesses(alloc, program, node)?;
+    for place in 0..list.len() {
+        let item = list.at(place);
+        let kind = match item.access {
+            Access::Read => "r",
+            Access::Write => "w",
+        };
+        let sure = if item.certain { "" } else { "?" };
+        let placed = item.id.node == node && item.id.index as usize == place;
+        let mark = if placed { "" } else { "!" };
+        let word = format!(in alloc; " {kind}{}{sure}{mark}", item.var.number)?;
+        text.push_str(word.as_str())?;
+    }
+    Ok(())
+}
+
+// The accesses of each node in the order of the nodes, each list ended by `;`.
+fn shown(alloc: Global, program: &Program) -> Result<String, NoMemory> {
+    let mut text = String::new(alloc);
+    for number in 0..node_count(program) {
+        add_accesses(alloc, program, NodeId { number }, &mut text)?;
+        text.push_str(";")?;
+    }
+    Ok(text)
+}
+
+// What stands before each body: the variables 0 to 4 and two functions.
+const BEFORE: &str = "int x, y, z, a[3], b; pthread_mutex_t m; int f(int n) { return n; } \
+void *w(void *arg) { return 0; } int main(void) { ";
+
+// Bodies of main, and the accesses of their nodes. The nodes of f and w have none.
+const BODIES: [(&str, &str); 24] = [
+    ("", ""),
+    ("x = 1;", " w0;"),
+    ("x = y;", " r1 w0;"),
+    ("x += y;", " r0 r1 w0;"),
+    ("x++; --y;", " r0 w0; r1 w1;"),
+    ("a[x] = y;", " r0 r1 w3;"),
+    ("a[x] += y && z;", " r0 r3 r1 r2? w3;"),
+    ("a[a[1]]++;", " r3 r3 w3;"),
+    ("x = y || z && a[b];", " r1 r2? r4? r3? w0;"),
+    ("x = (y && z) + b;", " r1 r2? r4 w0;"),
+    ("x = !-y * z;", " r1 r2 w0;"),
+    ("int i = x; i = y; i++;", " r0; r1;;"),
+    ("int i, j = x; x = j;", "; r0; w0;"),
+    ("f(x);", " r0;"),
+    ("y = f(x);", " r0 w1;"),
+    ("a[x] = f(y);", " r0 r1 w3;"),
+    (
+        "pthread_t t; pthread_create(&t, NULL, w, (void *)(long)(x)); pthread_join(t, NULL);",
+        "; r0;;",
+    ),
+    ("pthread_mutex_lock(&m); pthread_mutex_unlock(&m);", ";;"),
+    ("printf(\"%d %d\", x, y && z);", " r0 r1 r2?;"),
+    ("scanf(\"%d\", &x); scanf(\"%d\", &a[y]);", " w0; r1 w3;"),
+    ("if (x) y = 1; else z = 2;", " r0; w1; w2;"),
+    ("while (x && y) z++;", " r0 r1?; r2 w2;"),
+    (
+        "for (; x; y++) { if (z) break; else x = f(z); printf(\"%d\", b); }",
+        " r0; r1 w1; r2;; r2 w0; r4;",
+    ),
+    ("x = 0; return y;", " w0; r1;"),
+];
+
+// Nodes stand in the order of the text, a condition before the step behind it and the body; the
+// accesses of a node stand in the order in which they are made.
+#[test]
+fn nodes_have_their_accesses(rt: HostRuntime) -> Result<(), Fail> {
+    let alloc = rt.alloc();
+    for (body, want) in BODIES {
+        let text = format!(in alloc; "{BEFORE}{body} }}")?;
+        let made = match source(alloc, text.as_str()) {
+            Some(source) => shown(alloc, source.program())?,
+            None => String::new(alloc),
+        };
+        let whole = format!(in alloc; ";;{want}")?;
+        assert_eq!(rt; made.as_str(), whole.as_str(), "of {body}");
+    }
+    Ok(())
+}
+
+// Texts with operations, and the texts without them.
 const STRIPPED: [(&str, &str); 9] = [
     (
         "int x; int main(void) { cfix_enter(0); x++; cfix_leave(0); }",
@@ -44,7 +143,7 @@ const STRIPPED: [(&str, &str); 9] = [
     ),
 ];
 
-/// Whether the program is patched, and without its operations the other one, which is not.
+// Whether the program is patched, and without its operations the other one, which is not.
 fn strips(alloc: Global, patched: &Program, plain: &Program) -> Result<bool, NoMemory> {
     let stripped = strip(alloc, patched)?;
     let twice = strip(alloc, plain)?;
@@ -81,7 +180,7 @@ fn programs_are_stripped_copied_and_compared(rt: HostRuntime) -> Result<(), Fail
     Ok(())
 }
 
-/// Texts that differ in one thing.
+// Texts that differ in one thing.
 const UNEQUAL: [(&str, &str); 12] = [
     (
         "int x; int main(void) { x = 1; }",
