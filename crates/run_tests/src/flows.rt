@@ -1,6 +1,6 @@
 //! Control flow and calls of whole programs.
-use crate::programs::{WHOLES, Whole};
 use crate::reading::source_of;
+use crate::samples::{WHOLES, Whole};
 use c_prog::{Program, node_count};
 use call_graph::calls;
 use cfix_base::{FnId, NodeId, Place};

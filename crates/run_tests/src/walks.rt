@@ -1,6 +1,6 @@
 //! Where the paths of a function lead, and where they come from.
-use crate::programs::{SHAPES, TWO};
 use crate::reading::{shown_set, source_of};
+use crate::samples::{SHAPES, TWO};
 use cfix_base::{FnId, NodeId};
 use flow_graph::flow;
 use plan_types::NodeSet;
