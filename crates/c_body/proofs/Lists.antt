@@ -1,5 +1,5 @@
 -- Lists whose items have their commas before them.
-use Rattle.std.proofs.Common.{◌≡◌, ℕ, ◌+◌, List, map, length, arith}
+use Rattle.std.proofs.Common.{◌≡◌, ℕ, suc, ◌+◌, ◌<◌, ◌^◌, List, map, length, arith}
 use Rattle.std.proofs.lemmas.Grind.{common_steps}
 use Rattle.std.proofs.lemmas.List.{length-map}
 use Rattle.cfix_base.specs.declared.Spot.{Spot}
@@ -25,3 +25,7 @@ pub length-loop_ints : (x : g.LoopInt) (more : List (Spot × LoopInt)) → lengt
 length-loop_ints x more = grind (arith, common_steps)
 
 pub ruleset seconds = (length-more, length-ints, length-holds, length-loop_ints)
+
+-- one more is declared, and n are left
+pub next-fits : (new old n : ℕ) → new ≡ old + 1 → old + suc n < 2 ^ 32 → new + n < 2 ^ 32
+next-fits new old n is fits = omega arith

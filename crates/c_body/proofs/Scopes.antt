@@ -1,6 +1,6 @@
 -- What declarations, statements and blocks leave of a scope.
 use Rattle.std.specs.Prelude.{option_map}
-use Rattle.std.proofs.Common.{◌≡◌, ℕ, ◌+◌, ◌-◌, ◌≤◌, List, [], ◌∷◌, ◌++◌, length, take, drop, Option, Some, None, refl, ap, sym, ◌∙◌, arith}
+use Rattle.std.proofs.Common.{◌≡◌, ℕ, ◌+◌, ◌-◌, ◌^◌, ◌<◌, ◌≤◌, List, [], ◌∷◌, ◌++◌, length, take, drop, Option, Some, None, refl, ap, ◌∙◌, arith}
 use Rattle.std.proofs.lemmas.Grind.{common_steps}
 use Rattle.std.proofs.Math.Seq.{take-append_seam, drop-append_seam}
 use Rattle.c_grammar.specs.Stmt.{First, Items, NoItems, AndItem, Item, Declares, Does}
@@ -8,7 +8,7 @@ use Rattle.c_prog.specs.declared.stmt.Stmt.{Stmt}
 use Rattle.c_prog.specs.Valid.Scope.{Local, Scope, entered, passed}
 use Rattle.c_prog.specs.Valid.Statements.{Declared}
 use Rattle.c_names.specs.Uses.{Names}
-use Rattle.c_names.specs.Scopes.{with_local, with_locals, decl_declared, first_declared, in_for, stmt_locals, items_locals, item_locals, item_after}
+use Rattle.c_names.specs.Scopes.{with_local, with_locals, decl_declared, first_declared, in_for, items_locals, item_locals, item_after}
 use Rattle.c_names.specs.SpelledStatements.{first_of, for_of}
 use Rattle.c_scope.specs.Scopes.{left}
 use Rattle.c_body.specs.After.{items_after, with_first}
@@ -28,6 +28,10 @@ around-item scope (Does st) = refl
 pub count-item : (scope : Scope) (i : Item) → (item_after scope i).count ≡ scope.count + item_locals i
 count-item scope (Declares decl end ops) = count-locals (decl_declared decl) scope
 count-item scope (Does st) = refl
+
+-- behind an item that declares m locals, n are left
+pub after-fits : (new old m n : ℕ) → new ≡ old + m → old + (m + n) < 2 ^ 32 → new + n < 2 ^ 32
+after-fits new old m n is fits = omega arith
 
 pub around-items : (scope : Scope) (items : Items) → (items_after scope items).around ≡ scope.around
 around-items scope NoItems = refl

@@ -1,4 +1,4 @@
-use Rattle.std.proofs.Common.{◌≡◌, ◌++◌, take}
+use Rattle.std.proofs.Common.{◌≡◌, take}
 use Rattle.c_raw.specs.Ops.{more_ops_view}
 use Rattle.c_names.specs.SpelledStatements.{more_ops_of}
 use Rattle.c_body.proofs.ops.more_ops_of.Given as goal

@@ -1,4 +1,4 @@
-use Rattle.std.proofs.Common.{◌≡◌, ◌++◌, take}
+use Rattle.std.proofs.Common.{◌≡◌, take}
 use Rattle.c_raw.specs.Ops.{ops_view}
 use Rattle.c_names.specs.SpelledStatements.{ops_of}
 use Rattle.c_body.proofs.ops.ops_of.Given as goal

@@ -1,7 +1,7 @@
-use Rattle.std.proofs.Common.{◌≡◌, ◌+◌, ◌<◌, ◌≤◌, ◌^◌, ◌∷◌, ◌++◌, length, drop, List, ap, sym, ◌∙◌, subst, append_assoc, arith}
-use Rattle.std.proofs.lemmas.Grind.{common_steps}
+use Rattle.std.proofs.Common.{◌≡◌, ◌+◌, ◌<◌, ◌≤◌, ◌^◌, ◌∷◌, ◌++◌, length, drop, ap, sym, ◌∙◌, subst, append_assoc}
+use Rattle.std.proofs.lemmas.List.{drop_more}
 use Rattle.c_raw.specs.Stmts.{first_part_view, stmt_view, item_view, items_view}
-use Rattle.c_prog.specs.Valid.Scope.{Scope, entered, passed}
+use Rattle.c_prog.specs.Valid.Scope.{Scope, passed}
 use Rattle.c_names.specs.Faults.{noted_all}
 use Rattle.c_names.specs.Scopes.{first_declared, in_for, with_locals, stmt_locals, item_locals, items_locals, item_after}
 use Rattle.c_names.specs.Statements.{item_faults, items_faults}
@@ -12,7 +12,7 @@ use Rattle.c_scope.specs.Tables.{names_from}
 use Rattle.c_scope.proofs.Faults.{noted_all-append}
 use Rattle.c_body.specs.Views.{around_view}
 use Rattle.c_body.specs.After.{items_after}
-use Rattle.c_body.proofs.Scopes.{room-for, left-for, count-item}
+use Rattle.c_body.proofs.Scopes.{room-for, left-for, count-item, after-fits}
 use Rattle.c_body.proofs.stmts.+stmt.Goals as goal
 
 pub resolve_for-leave-requires : goal.resolve_for-leave-requires
@@ -49,13 +49,14 @@ resolve_items-loop-raw-preserved t c =
     let rest = drop (c.loop-raw.raw-index + 1) c.args.list.now in
     let more = items_view rest in
     let new = c.resolve_item.new.scope in
-    let whole : drop c.loop-raw.raw-index c.args.list.now ≡ c.raw-item.result ∷ rest = grind (arith, common_steps) in
+    let whole : drop c.loop-raw.raw-index c.args.list.now ≡ c.raw-item.result ∷ rest =
+    drop_more c.args.list.now c.loop-raw.raw-index c.raw-item.result c.loop-raw-test.true ∙ ap (λ y. y ∷ rest) (sym c.raw-item.is) in
     let seen : new ≡ item_after scope i = c.in_ok-more.ensures.seen in
     let count : new.count ≡ scope.count + item_locals i = ap (λ (s : Scope). s.count) seen ∙ count-item scope i in
     let fits : scope.count + (item_locals i + items_locals more) < 2 ^ 32 =
     subst (λ l. scope.count + items_locals (items_view l) < 2 ^ 32) whole c.loop-raw.invariant.fits in
     record {
-      fits = omega (arith, count, fits);
+      fits = after-fits new.count scope.count (item_locals i) (items_locals more) count fits;
       built =
           ap (λ l. l ++ items_of names around new more) (c.in_ok-append.ensures ∙ ap (λ m. stmts ++ m) c.in_ok-more.ensures.built)
           ∙ ap (λ s. (stmts ++ item_of names around scope i) ++ items_of names around s more) seen

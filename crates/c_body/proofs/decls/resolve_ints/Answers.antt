@@ -1,0 +1,62 @@
+use Rattle.std.proofs.Common.{◌≡◌, ◌+◌, ◌<◌, ◌^◌, [], ◌∷◌, ◌++◌, map, length, drop, List, ap, sym, ◌∙◌, subst, append_assoc}
+use Rattle.std.proofs.lemmas.List.{drop_more}
+use Rattle.cfix_base.specs.declared.Spot.{Spot}
+use Rattle.c_raw.specs.declared.decl.LocalInt.{LocalInt}
+use Rattle.c_raw.specs.Decls.{local_int_view, more_local_ints_view}
+use Rattle.c_grammar.specs.Decl as g
+use Rattle.c_prog.specs.declared.stmt.Stmt.TheVariants as stmt
+use Rattle.c_names.specs.Faults.{noted_all}
+use Rattle.c_names.specs.Scopes.{local_int_declared, with_local, with_locals}
+use Rattle.c_names.specs.Statements.{local_int_faults, local_ints_faults}
+use Rattle.c_names.specs.SpelledStatements.{local_ints_of, with_ops, local_int_of}
+use Rattle.c_names.specs.LinesStatements.{local_int_lines, local_ints_lines}
+use Rattle.c_scope.specs.Tables.{names_from}
+use Rattle.c_scope.proofs.Faults.{noted_all-append}
+use Rattle.c_body.proofs.Lists.{next-fits}
+use Rattle.c_body.proofs.decls.resolve_ints.Goals as goal
+
+abbrev seconds : List (Spot × LocalInt) → List g.LocalInt
+seconds more = map (λ y. y.1) (more_local_ints_view more)
+
+pub loop-next-preserved : goal.loop-next-preserved
+loop-next-preserved c =
+    let names = names_from c.args.names.now in
+    let scope = c.loop-next.scope in
+    let walk = c.loop-next.walk in
+    let stmts = c.loop-next.stmts in
+    let last = c.loop-next.last in
+    let x = local_int_view c.next-item.result.1 in
+    let rest = drop (c.loop-next.next-index + 1) c.args.more.now in
+    let more = seconds rest in
+    let new = c.resolve_local_int-in-loop-next.new.scope in
+    let whole : drop c.loop-next.next-index c.args.more.now ≡ c.next-item.result ∷ rest =
+    drop_more c.args.more.now c.loop-next.next-index c.next-item.result c.loop-next-test.true ∙ ap (λ y. y ∷ rest) (sym c.next-item.is) in
+    let seen : new ≡ with_local (local_int_declared x) scope = c.in_ok-act.ensures.seen in
+    record {
+      fits = next-fits new.count scope.count (length rest) (ap (λ s. s.count) seen)
+          (subst (λ l. scope.count + length l < 2 ^ 32) whole c.loop-next.invariant.fits);
+      built =
+          ap (λ l. l ++ with_ops (c.replace-act.new.dest ∷ local_ints_of names new more) c.args.after)
+          (c.in_ok-push.ensures.ok ∙ ap (λ a. stmts ++ stmt.Simple a c.new-after.result ∷ []) c.replace-act.ensures.value ∙ ap (λ o. stmts ++ stmt.Simple last o ∷ []) c.new-after.ensures)
+          ∙ ap (λ a. (stmts ++ stmt.Simple last [] ∷ []) ++ with_ops (a ∷ local_ints_of names new more) c.args.after) (c.replace-act.ensures.after ∙ c.in_ok-act.ensures.built)
+          ∙ ap (λ s. (stmts ++ stmt.Simple last [] ∷ []) ++ with_ops (local_int_of names scope x ∷ local_ints_of names s more) c.args.after) seen
+          ∙ append_assoc stmts (stmt.Simple last [] ∷ []) (with_ops (local_int_of names scope x ∷ local_ints_of names (with_local (local_int_declared x) scope) more) c.args.after)
+          ∙ ap (λ l. stmts ++ with_ops (last ∷ local_ints_of names scope (seconds l)) c.args.after) (sym whole)
+          ∙ c.loop-next.invariant.built;
+      noted =
+          ap (λ w. noted_all w (local_ints_faults names new more)) c.in_ok-act.ensures.noted
+          ∙ ap (λ s. noted_all (noted_all walk.least (local_int_faults names scope x)) (local_ints_faults names s more)) seen
+          ∙ sym (noted_all-append walk.least (local_int_faults names scope x) (local_ints_faults names (with_local (local_int_declared x) scope) more))
+          ∙ ap (λ l. noted_all walk.least (local_ints_faults names scope (seconds l))) (sym whole)
+          ∙ c.loop-next.invariant.noted;
+      lined =
+          ap (λ l. l ++ local_ints_lines names new more) c.in_ok-act.ensures.lined
+          ∙ ap (λ s. (walk.lines ++ local_int_lines names scope x) ++ local_ints_lines names s more) seen
+          ∙ append_assoc walk.lines (local_int_lines names scope x) (local_ints_lines names (with_local (local_int_declared x) scope) more)
+          ∙ ap (λ l. walk.lines ++ local_ints_lines names scope (seconds l)) (sym whole)
+          ∙ c.loop-next.invariant.lined;
+      seen =
+          ap (λ s. with_locals (map local_int_declared more) s) seen
+          ∙ ap (λ l. with_locals (map local_int_declared (seconds l)) scope) (sym whole)
+          ∙ c.loop-next.invariant.seen;
+    }
