@@ -11,6 +11,8 @@ mod failing;
 #[cfg(test)]
 mod flows;
 #[cfg(test)]
+mod machine;
+#[cfg(test)]
 mod outside;
 #[cfg(test)]
 mod paths;
