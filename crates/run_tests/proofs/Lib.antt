@@ -1,1 +1,2 @@
 pub mod Bottoms
+pub mod Counted

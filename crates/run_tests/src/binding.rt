@@ -51,7 +51,9 @@ fn found(alloc: Global, case: &Case) -> Option<String> {
     );
     let reports = reports(alloc, text.ok()?.as_bytes()).ok()?;
     let source = source_of(alloc, case.program)?;
-    let graphs = graphs(alloc, source.program()).ok()?;
+    let Ok(graphs) = graphs(alloc, source.program()) else {
+        return None;
+    };
     let [report] = reports.as_slice() else {
         return None;
     };

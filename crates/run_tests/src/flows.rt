@@ -36,9 +36,12 @@ fn shown_flow(alloc: Global, program: &Program) -> Option<String> {
     Some(out)
 }
 
+#[tactic(auto, using(crate::proofs::Counted::nodes_counted, crate::proofs::Counted::functions_counted))]
 fn shown_calls(alloc: Global, program: &Program) -> Option<String> {
     let mut out = String::new(alloc);
-    let calls = calls(alloc, program).ok()?;
+    let Ok(calls) = calls(alloc, program) else {
+        return None;
+    };
     for number in 0..node_count(program) {
         let node = NodeId { number };
         write!(out, " {number} in f{}", calls.function_of(node).number).ok()?;
