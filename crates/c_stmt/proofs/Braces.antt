@@ -5,13 +5,15 @@ use Rattle.c_grammar.specs.declared.word.Word.TheVariants as w
 use Rattle.c_grammar.specs.declared.sign.Sign.TheVariants as s
 use Rattle.c_grammar.specs.Token.{Token}
 use Rattle.c_grammar.specs.Reader.{Out, seq, map_out, alt, begins}
-use Rattle.c_grammar.specs.Read.{is_word, is_sign, read_word, read_sign}
-use Rattle.c_grammar.specs.ReadOp.{is_verb}
+use Rattle.c_grammar.specs.Read.{is_word, is_sign, read_word, read_sign, listed}
+use Rattle.c_grammar.specs.ReadOp.{is_verb, read_ops}
+use Rattle.c_grammar.specs.ReadSimple.{value_at}
+use Rattle.c_grammar.specs.ReadDecl.{local_at}
 use Rattle.c_grammar.specs.Stmt.{Stmt, Jumps, Items}
-use Rattle.c_grammar.specs.ReadStmt.{ValueBlockParts, IntsBlockParts, OtherItem, InBraces, brace_from, brace_with, read_bare_block, value_block_at, ints_block_with, other_item_from, other_item_with, items_with, stmt_at}
-use Rattle.c_stmt.specs.Jumps.{bare_block, bare_block_from, value_block, value_block_from}
-use Rattle.c_stmt.specs.Stmts.{items_at, other_item_at, ints_block_from, int_block_from, items_block, block_from, inside_from, brace_at}
-use Rattle.c_stmt.proofs.Outs.{map_map, next_same, either_same, seq_is, seq_mapped, alt_is}
+use Rattle.c_grammar.specs.ReadStmt.{read_semicolon, ValueBlockParts, IntsBlockParts, OtherItem, InBraces, brace_from, brace_with, read_bare_block, value_block_at, ints_block_with, other_item_from, other_item_with, items_with, stmt_at}
+use Rattle.c_stmt.specs.Jumps.{bare_block, bare_block_from, value_block, value_parts, set_value_at, return_value, value_block_from}
+use Rattle.c_stmt.specs.Stmts.{items_at, other_item_at, int_item, int_item_at, ints_block_from, int_block_from, items_block, block_from, inside_from, brace_at}
+use Rattle.c_stmt.proofs.Outs.{map_map, next_same, either_same, seq_is, seq_mapped, alt_is, three_then, four_then}
 
 module _ (d : ℕ) where
   abbrev items_parts : List Token → Out Token (OtherItem × (Items × Spot))
@@ -33,11 +35,13 @@ module _ (d : ℕ) (before : Spot) where
 
   value_same : (int : Spot) (ts : List Token) → map_out (λ x. in_braces (inr (inl (int, inl x)))) (value_block_at 200 d ts) ≡ map_out Jumps (value_block_from d before int ts)
   unfolding value_block_from
-  value_same int ts = sym (map_map Jumps (value_block before int) (value_block_at 200 d ts))
+  value_same int ts = four_then (λ x. in_braces (inr (inl (int, inl x)))) (read_word w.Value) (read_sign s.Assign) (value_at 200 d) read_semicolon return_value ts
+      ∙ sym (map_map Jumps (λ x. value_block before int (value_parts x)) (seq (set_value_at d) return_value ts))
 
   ints_same : (int : Spot) (ts : List Token) → map_out (λ x. in_braces (inr (inl (int, inr x)))) (ints_block_with 200 d (stmt_at 200 d) ts) ≡ ints_block_from d before int ts
-  unfolding ints_block_from
-  ints_same int ts = refl
+  unfolding ints_block_from int_item_at items_at
+  ints_same int ts = three_then (λ x. in_braces (inr (inl (int, inr x)))) (listed (local_at 200 d)) read_semicolon read_ops (seq (items_with 200 d (stmt_at 200 d)) (read_sign s.CloseBrace)) ts
+      ∙ sym (seq_mapped (items_block before) (int_item int) (seq (seq (listed (local_at 200 d)) read_semicolon) read_ops) (seq (items_with 200 d (stmt_at 200 d)) (read_sign s.CloseBrace)) ts)
 
   int_same : (ts : List Token) → map_out (λ x. in_braces (inr (inl x))) (seq (read_word w.Int) (alt (is_word w.Value) (value_block_at 200 d) (ints_block_with 200 d (stmt_at 200 d))) ts) ≡ int_block_from d before ts
   unfolding int_block_from

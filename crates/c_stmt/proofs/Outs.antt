@@ -1,5 +1,5 @@
 -- Laws of what readers answer: a value or a fault goes through what is done with it.
-use Rattle.std.proofs.Common.{◌≡◌, Bool, true, false, List, refl, ap, inl, inr, ◌⊎◌}
+use Rattle.std.proofs.Common.{◌≡◌, Bool, true, false, List, refl, ap, ◌∙◌, inl, inr, ◌⊎◌}
 use Rattle.c_grammar.specs.Reader.{Out, Got, Stop, next, seq, seq_dep, map_out, mapped, begins, either, alt}
 
 pub map_map : {T A B C : Type 0} (f : B → C) (g : A → B) (o : Out T A) → map_out f (map_out g o) ≡ map_out (λ x. f (g x)) o
@@ -70,3 +70,32 @@ next_next (Stop e r) f k = refl
 pub map_next : {T A B C : Type 0} (g : B → C) (o : Out T A) (f : A → List T → Out T B) → map_out g (next o f) ≡ next o (λ a r. map_out g (f a r))
 map_next g (Got a r) f = refl
 map_next g (Stop e r) f = refl
+
+seq_last : {T A B C D : Type 0} (f : A × (B × C) → D) (a : A) (b : B) (o : Out T C)
+    → map_out f (next {B = A × (B × C)} (next {B = B × C} o (λ c s. Got (b, c) s)) (λ y s. Got (a, y) s)) ≡ map_out (λ (x : (A × B) × C). f (x.0.0, (x.0.1, x.1))) (next {B = (A × B) × C} o (λ c s. Got ((a, b), c) s))
+seq_last f a b (Got c s) = refl
+seq_last f a b (Stop e s) = refl
+
+seq_behind : {T A B C D : Type 0} (f : A × (B × C) → D) (a : A) (o : Out T B) (t : List T → Out T C)
+    → map_out f (next {B = A × (B × C)} (next {B = B × C} o (λ b r. next (t r) (λ c s. Got (b, c) s))) (λ y s. Got (a, y) s))
+    ≡ map_out (λ (x : (A × B) × C). f (x.0.0, (x.0.1, x.1))) (next {B = (A × B) × C} (next {B = A × B} o (λ b s. Got (a, b) s)) (λ x r. next (t r) (λ c s. Got (x, c) s)))
+seq_behind f a (Got b r) t = seq_last f a b (t r)
+seq_behind f a (Stop e r) t = refl
+
+-- readers in a row, those before the last taken together
+seq_assoc : {T A B C D : Type 0} (f : A × (B × C) → D) (p : List T → Out T A) (q : List T → Out T B) (t : List T → Out T C) (ts : List T)
+    → map_out f (seq p (seq q t) ts) ≡ map_out (λ (x : (A × B) × C). f (x.0.0, (x.0.1, x.1))) (seq (seq p q) t ts)
+seq_assoc {T} {A} {B} {C} f p q t ts = at (p ts)
+  where
+    at : (o : Out T A) → map_out f (next {B = A × (B × C)} o (λ a r. next (seq q t r) (λ y s. Got (a, y) s)))
+        ≡ map_out (λ (x : (A × B) × C). f (x.0.0, (x.0.1, x.1))) (next {B = (A × B) × C} (next {B = A × B} o (λ a r. next (q r) (λ b s. Got (a, b) s))) (λ x r. next (t r) (λ c s. Got (x, c) s)))
+    at (Got a r) = seq_behind f a (q r) t
+    at (Stop e r) = refl
+
+pub three_then : {T A B C D E : Type 0} (f : A × (B × (C × D)) → E) (p : List T → Out T A) (q : List T → Out T B) (r : List T → Out T C) (t : List T → Out T D) (ts : List T)
+    → map_out f (seq p (seq q (seq r t)) ts) ≡ map_out (λ (x : ((A × B) × C) × D). f (x.0.0.0, (x.0.0.1, (x.0.1, x.1)))) (seq (seq (seq p q) r) t ts)
+three_then {T} {A} {B} {C} {D} f p q r t ts = seq_assoc f p q (seq r t) ts ∙ seq_assoc (λ (x : (A × B) × (C × D)). f (x.0.0, (x.0.1, x.1))) (seq p q) r t ts
+
+pub four_then : {T A B C D E F : Type 0} (f : A × (B × (C × (D × E))) → F) (p : List T → Out T A) (q : List T → Out T B) (r : List T → Out T C) (s : List T → Out T D) (t : List T → Out T E) (ts : List T)
+    → map_out f (seq p (seq q (seq r (seq s t))) ts) ≡ map_out (λ (x : (((A × B) × C) × D) × E). f (x.0.0.0.0, (x.0.0.0.1, (x.0.0.1, (x.0.1, x.1))))) (seq (seq (seq (seq p q) r) s) t ts)
+four_then {T} {A} {B} {C} {D} {E} f p q r s t ts = three_then f p q r (seq s t) ts ∙ seq_assoc (λ (x : ((A × B) × C) × (D × E)). f (x.0.0.0, (x.0.0.1, (x.0.1, x.1)))) (seq (seq p q) r) s t ts

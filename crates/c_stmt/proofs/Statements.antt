@@ -5,14 +5,15 @@ use Rattle.c_grammar.specs.declared.word.Word.TheVariants as w
 use Rattle.c_grammar.specs.declared.sign.Sign.TheVariants as s
 use Rattle.c_grammar.specs.Token.{Token}
 use Rattle.c_grammar.specs.Reader.{Out, Stop, Deep, seq, map_out, alt, either, begins, shut}
-use Rattle.c_grammar.specs.Read.{is_word, is_sign}
+use Rattle.c_grammar.specs.Read.{is_word, is_sign, read_word, read_sign}
 use Rattle.c_grammar.specs.ReadOp.{read_ops}
 use Rattle.c_grammar.specs.ReadSimple.{simple_at}
+use Rattle.c_grammar.specs.ReadCond.{cond_at}
 use Rattle.c_grammar.specs.Stmt.{Stmt, Nothing, Jumps}
-use Rattle.c_grammar.specs.ReadStmt.{is_semicolon, read_semicolon, BraceParts, IfParts, WhileParts, ForParts, JumpParts, SimplyParts, brace_from, brace_with, if_from, if_with, while_from, while_with, for_from, for_with, jump_from, jump_parts_at, begins_jump, stmt_from, stmt_with, stmt_at}
+use Rattle.c_grammar.specs.ReadStmt.{is_semicolon, read_semicolon, BraceParts, IfParts, WhileParts, ForParts, JumpParts, SimplyParts, brace_from, brace_with, if_from, if_with, while_from, while_with, for_from, for_with, else_tail_with, jump_from, jump_parts_at, begins_jump, stmt_from, stmt_with, stmt_at}
 use Rattle.c_stmt.specs.Jumps.{jump_at}
 use Rattle.c_stmt.specs.Stmts.{brace_at, if_at, while_at, for_at, simply_at, flat_at}
-use Rattle.c_stmt.proofs.Outs.{map_map, either_same, alt_is}
+use Rattle.c_stmt.proofs.Outs.{map_map, either_same, alt_is, four_then}
 use Rattle.c_stmt.proofs.Braces.{brace_same}
 
 -- the readers of the constructs that are nested more deeply
@@ -125,20 +126,26 @@ module _ (ts : List Token) where
       pub if_deep : stmt_at 200 zero ts ≡ Stop Deep ts
       if_deep = zero_is ∙ if_case zero no_brace no_choice no_loop no_counted ts no here ∙ rw here refl
 
-      pub if_is : (d : ℕ) → stmt_at 200 (suc d) ts ≡ if_at d ts
+      if_same : (d : ℕ) → map_out if_from (choice_in d ts) ≡ if_at d ts
       unfolding if_at
-      if_is zero = one_is ∙ if_case (suc zero) (brace_in zero) (choice_in zero) (loop_in zero) no_counted ts no here
-      if_is (suc d) = more_is d ∙ if_case (suc (suc d)) (brace_in (suc d)) (choice_in (suc d)) (loop_in (suc d)) (counted_in d) ts no here
+      if_same d = four_then if_from (read_word w.If) (read_sign s.OpenParen) (cond_at 200 d) (read_sign s.CloseParen) (else_tail_with (stmt_at 200 d)) ts
+
+      pub if_is : (d : ℕ) → stmt_at 200 (suc d) ts ≡ if_at d ts
+      if_is zero = one_is ∙ if_case (suc zero) (brace_in zero) (choice_in zero) (loop_in zero) no_counted ts no here ∙ if_same zero
+      if_is (suc d) = more_is d ∙ if_case (suc (suc d)) (brace_in (suc d)) (choice_in (suc d)) (loop_in (suc d)) (counted_in d) ts no here ∙ if_same (suc d)
 
     module _ (no_if : begins (is_word w.If) ts ≡ false) where
       module _ (here : begins (is_word w.While) ts ≡ true) where
         pub while_deep : stmt_at 200 zero ts ≡ Stop Deep ts
         while_deep = zero_is ∙ while_case zero no_brace no_choice no_loop no_counted ts no no_if here ∙ rw here refl
 
-        pub while_is : (d : ℕ) → stmt_at 200 (suc d) ts ≡ while_at d ts
+        while_same : (d : ℕ) → map_out while_from (loop_in d ts) ≡ while_at d ts
         unfolding while_at
-        while_is zero = one_is ∙ while_case (suc zero) (brace_in zero) (choice_in zero) (loop_in zero) no_counted ts no no_if here
-        while_is (suc d) = more_is d ∙ while_case (suc (suc d)) (brace_in (suc d)) (choice_in (suc d)) (loop_in (suc d)) (counted_in d) ts no no_if here
+        while_same d = four_then while_from (read_word w.While) (read_sign s.OpenParen) (cond_at 200 d) (read_sign s.CloseParen) (stmt_at 200 d) ts
+
+        pub while_is : (d : ℕ) → stmt_at 200 (suc d) ts ≡ while_at d ts
+        while_is zero = one_is ∙ while_case (suc zero) (brace_in zero) (choice_in zero) (loop_in zero) no_counted ts no no_if here ∙ while_same zero
+        while_is (suc d) = more_is d ∙ while_case (suc (suc d)) (brace_in (suc d)) (choice_in (suc d)) (loop_in (suc d)) (counted_in d) ts no no_if here ∙ while_same (suc d)
 
       module _ (no_while : begins (is_word w.While) ts ≡ false) where
         module _ (here : begins (is_word w.For) ts ≡ true) where

@@ -2,9 +2,9 @@
 ghost use Rattle.std.specs.Prelude.{◌≡◌, ◌∷◌, IfOk, drop};
 ghost use Rattle.c_raw.specs.Stmts.{stmt_view, item_view, items_view};
 ghost use Rattle.c_cursor.specs.Gives.{Gives};
-ghost use Rattle.c_stmt.specs.Stmts.{item_at, items_at, other_item_at, ints_block_from, int_block_from, block_from, inside_from, brace_at};
+ghost use Rattle.c_stmt.specs.Stmts.{item_at, items_at, other_item_at, int_item_at, ints_block_from, int_block_from, block_from, inside_from, brace_at};
 
-use crate::decl::{Locals, decl_of, hold_of, locals_of, more_holds_of};
+use crate::decl::{Locals, boxed_decl_of, hold_of, locals_of, more_holds_of};
 use crate::flat::jumps;
 use crate::jump::{bare_block_of, value_block_of};
 use crate::stmt::stmt_of;
@@ -41,10 +41,9 @@ fn item_of(
         let (stmt, at) = stmt_of(cursor, alloc, depth, at)?;
         return Ok((Item::Does(stmt), at));
     }
-    let (decl, at) = decl_of(cursor, alloc, depth, at)?;
+    let (decl, at) = boxed_decl_of(cursor, alloc, depth, at)?;
     let (end, at) = cursor.sign(Sign::Semicolon, at)?;
     let (ops, at) = ops(cursor, alloc, at)?;
-    let decl = Boxed::new(alloc, decl)?;
     Ok((Item::Declares { decl, end, ops }, at))
 }
 
@@ -71,6 +70,29 @@ pub fn items_of(
     Ok((items, place))
 }
 
+/// The first item of a block, behind its `int`.
+#[tactic(auto, unfolding(crate::specs::Stmts::int_item_at))]
+fn int_item_of(
+    cursor: &Cursor<'_>,
+    alloc: Global,
+    depth: u32,
+    int: Spot,
+    at: usize,
+) -> Result<(Item, usize), ReadFault>
+    ensures { Gives item_view cursor.now.tokens result (int_item_at depth int (drop at cursor.now.tokens)) }
+{
+    let (Locals { first, more }, at) = locals_of(cursor, alloc, depth, at)?;
+    let decl = Decl::Ints {
+        at: int,
+        first,
+        more,
+    };
+    let decl = Boxed::new(alloc, decl)?;
+    let (end, at) = cursor.sign(Sign::Semicolon, at)?;
+    let (ops, at) = ops(cursor, alloc, at)?;
+    Ok((Item::Declares { decl, end, ops }, at))
+}
+
 /// A block behind its `{` and the `int` of its first item.
 #[cycle(statement)]
 #[tactic(auto, unfolding(crate::specs::Stmts::ints_block_from, crate::specs::Stmts::items_at))]
@@ -84,22 +106,10 @@ fn ints_block_of(
 ) -> Result<(Stmt, usize), ReadFault>
     ensures { Gives stmt_view cursor.now.tokens result (ints_block_from depth before int (drop at cursor.now.tokens)) }
 {
-    let (locals, at) = locals_of(cursor, alloc, depth, at)?;
-    let (end, at) = cursor.sign(Sign::Semicolon, at)?;
-    let (ops, at) = ops(cursor, alloc, at)?;
+    let (first, at) = int_item_of(cursor, alloc, depth, int, at)?;
     let (more, at) = items_of(cursor, alloc, depth, at)?;
     let (after, at) = cursor.sign(Sign::CloseBrace, at)?;
-    let Locals {
-        first,
-        more: others,
-    } = locals;
-    let decl = Decl::Ints {
-        at: int,
-        first,
-        more: others,
-    };
-    let decl = Boxed::new(alloc, decl)?;
-    let items = first_and_more(alloc, Item::Declares { decl, end, ops }, more)?;
+    let items = first_and_more(alloc, first, more)?;
     Ok((
         Stmt::Block {
             before,
@@ -128,8 +138,6 @@ fn other_item_of(
     let (thread, at) = cursor.word(Word::Thread, at)?;
     let (first, at) = hold_of(cursor, alloc, at)?;
     let (more, at) = more_holds_of(cursor, alloc, at)?;
-    let (end, at) = cursor.sign(Sign::Semicolon, at)?;
-    let (ops, at) = ops(cursor, alloc, at)?;
     let decl = Boxed::new(
         alloc,
         Decl::Holds {
@@ -138,6 +146,8 @@ fn other_item_of(
             more,
         },
     )?;
+    let (end, at) = cursor.sign(Sign::Semicolon, at)?;
+    let (ops, at) = ops(cursor, alloc, at)?;
     Ok((Item::Declares { decl, end, ops }, at))
 }
 

@@ -9,10 +9,9 @@ use sqlite_items::Boxed;
 use std::alloc::{AllocError, Global};
 
 /// An `if` with no `else`.
-pub(crate) fn choice(alloc: Global, test: Test, then: Stmt) -> Result<Stmt, AllocError>
+pub(crate) fn choice(alloc: Global, test: Boxed<Test>, then: Stmt) -> Result<Stmt, AllocError>
     ensures { IfOk result (λ s. stmt_view s ≡ if_view test (stmt_view then) NoElse) }
 {
-    let test = Boxed::new(alloc, test)?;
     let then = Boxed::new(alloc, then)?;
     Ok(Stmt::If {
         test,
@@ -24,14 +23,13 @@ pub(crate) fn choice(alloc: Global, test: Test, then: Stmt) -> Result<Stmt, Allo
 /// An `if` with its `else`.
 pub(crate) fn choice_else(
     alloc: Global,
-    test: Test,
+    test: Boxed<Test>,
     then: Stmt,
     at: Spot,
     body: Stmt,
 ) -> Result<Stmt, AllocError>
     ensures { IfOk result (λ s. stmt_view s ≡ if_view test (stmt_view then) (ElseDo at (stmt_view body))) }
 {
-    let test = Boxed::new(alloc, test)?;
     let then = Boxed::new(alloc, then)?;
     let body = Boxed::new(alloc, body)?;
     Ok(Stmt::If {

@@ -11,6 +11,7 @@ use c_expr::{expr, value};
 use c_grammar::{Sign, Word};
 use c_raw::{Decl, Hold, LocalInt, LoopInt, Size};
 use cfix_base::{List, Spot};
+use sqlite_items::Boxed;
 use std::alloc::Global;
 
 /// `[size]` behind a declared name.
@@ -212,7 +213,7 @@ pub(crate) fn locals_of(
 
 /// A declaration of local variables, without its semicolon.
 #[tactic(auto, unfolding(c_grammar::specs::ReadDecl::decl_at))]
-pub(crate) fn decl_of(
+fn decl_of(
     cursor: &Cursor<'_>,
     alloc: Global,
     depth: u32,
@@ -244,6 +245,19 @@ pub(crate) fn decl_of(
         },
         at,
     ))
+}
+
+/// A declaration of local variables, without its semicolon, in a box.
+pub(crate) fn boxed_decl_of(
+    cursor: &Cursor<'_>,
+    alloc: Global,
+    depth: u32,
+    at: usize,
+) -> Result<(Boxed<Decl>, usize), ReadFault>
+    ensures { Gives decl_view cursor.now.tokens result (decl_at 200 depth (drop at cursor.now.tokens)) }
+{
+    let (decl, at) = decl_of(cursor, alloc, depth, at)?;
+    Ok((Boxed::new(alloc, decl)?, at))
 }
 
 /// A declarator in the first part of a `for`.

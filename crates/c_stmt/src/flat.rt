@@ -1,6 +1,8 @@
 //! Statements with no other statement in them.
 ghost use Rattle.std.specs.Prelude.{◌≡◌, IfOk, drop};
+ghost use Rattle.c_grammar.specs.ReadSimple.{simple_at};
 ghost use Rattle.c_grammar.specs.Stmt.{Jumps};
+ghost use Rattle.c_raw.specs.Simples.{simple_view};
 ghost use Rattle.c_raw.specs.Stmts.{stmt_view, jump_view};
 ghost use Rattle.c_cursor.specs.Gives.{Gives};
 ghost use Rattle.c_stmt.specs.Stmts.{simply_at, flat_at};
@@ -10,7 +12,7 @@ use crate::test::begins_jump;
 use c_cursor::{Cursor, ReadFault};
 use c_expr::{ops, simple};
 use c_grammar::Sign;
-use c_raw::{Jump, Stmt};
+use c_raw::{Jump, Simple, Stmt};
 use sqlite_items::Boxed;
 use std::alloc::{AllocError, Global};
 
@@ -19,6 +21,19 @@ pub(crate) fn jumps(alloc: Global, jump: Jump) -> Result<Stmt, AllocError>
     ensures { IfOk result (λ stmt. stmt_view stmt ≡ Jumps (jump_view jump)) }
 {
     Ok(Stmt::Jumps(Boxed::new(alloc, jump)?))
+}
+
+// A simple statement without its semicolon.
+fn simple_of(
+    cursor: &Cursor<'_>,
+    alloc: Global,
+    depth: u32,
+    at: usize,
+) -> Result<(Boxed<Simple>, usize), ReadFault>
+    ensures { Gives simple_view cursor.now.tokens result (simple_at 200 depth (drop at cursor.now.tokens)) }
+{
+    let (simple, at) = simple(cursor, alloc, depth, at)?;
+    Ok((Boxed::new(alloc, simple)?, at))
 }
 
 /// A simple statement with the operations behind it.
@@ -31,10 +46,9 @@ fn simply_of(
 ) -> Result<(Stmt, usize), ReadFault>
     ensures { Gives stmt_view cursor.now.tokens result (simply_at depth (drop at cursor.now.tokens)) }
 {
-    let (simple, at) = simple(cursor, alloc, depth, at)?;
+    let (simple, at) = simple_of(cursor, alloc, depth, at)?;
     let (end, at) = cursor.sign(Sign::Semicolon, at)?;
     let (ops, at) = ops(cursor, alloc, at)?;
-    let simple = Boxed::new(alloc, simple)?;
     Ok((Stmt::Simply { simple, end, ops }, at))
 }
 

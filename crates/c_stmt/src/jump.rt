@@ -3,13 +3,13 @@ ghost use Rattle.std.specs.Prelude.{drop};
 ghost use Rattle.c_raw.specs.Stmts.{bare_view, bare_block_view, value_block_view, jump_view};
 ghost use Rattle.c_grammar.specs.ReadStmt.{read_bare};
 ghost use Rattle.c_cursor.specs.Gives.{Gives};
-ghost use Rattle.c_stmt.specs.Jumps.{jump_at, return_from, bare_block_from, value_block_from};
+ghost use Rattle.c_stmt.specs.Jumps.{jump_at, return_from, bare_block_from, set_value_view, set_value_at, return_value_view, return_value, value_block_from};
 
 use c_cursor::{Cursor, ReadFault};
 use c_expr::{op, ops, value};
 use c_grammar::{Sign, Word};
-use c_raw::{Bare, BareBlock, Jump, ValueBlock};
-use cfix_base::Spot;
+use c_raw::{Bare, BareBlock, Jump, Op, Value, ValueBlock};
+use cfix_base::{List, Spot};
 use std::alloc::Global;
 
 /// A jump without a value and without its semicolon.
@@ -117,6 +117,78 @@ pub(crate) fn bare_block_of(
     ))
 }
 
+/// `cfix_value = value;`
+#[derive(Drop)]
+struct SetValue {
+    name: Spot,
+    set: Spot,
+    value: Value,
+    end: Spot,
+}
+
+fn set_value_of(
+    cursor: &Cursor<'_>,
+    alloc: Global,
+    depth: u32,
+    at: usize,
+) -> Result<(SetValue, usize), ReadFault>
+    ensures { Gives set_value_view cursor.now.tokens result (set_value_at depth (drop at cursor.now.tokens)) }
+{
+    let (name, at) = cursor.word(Word::Value, at)?;
+    let (set, at) = cursor.sign(Sign::Assign, at)?;
+    let (value, at) = value(cursor, alloc, depth, at)?;
+    let (end, at) = cursor.sign(Sign::Semicolon, at)?;
+    Ok((
+        SetValue {
+            name,
+            set,
+            value,
+            end,
+        },
+        at,
+    ))
+}
+
+/// `cfix_leave(1); return cfix_value; }`
+#[derive(Drop)]
+struct ReturnValue {
+    first: Op,
+    first_end: Spot,
+    ops: List<(Op, Spot)>,
+    at: Spot,
+    returned: Spot,
+    end: Spot,
+    after: Spot,
+}
+
+fn return_value_of(
+    cursor: &Cursor<'_>,
+    alloc: Global,
+    at: usize,
+) -> Result<(ReturnValue, usize), ReadFault>
+    ensures { Gives return_value_view cursor.now.tokens result (return_value (drop at cursor.now.tokens)) }
+{
+    let (first, at) = op(cursor, at)?;
+    let (first_end, at) = cursor.sign(Sign::Semicolon, at)?;
+    let (ops, at) = ops(cursor, alloc, at)?;
+    let (word, at) = cursor.word(Word::Return, at)?;
+    let (returned, at) = cursor.word(Word::Value, at)?;
+    let (end, at) = cursor.sign(Sign::Semicolon, at)?;
+    let (after, at) = cursor.sign(Sign::CloseBrace, at)?;
+    Ok((
+        ReturnValue {
+            first,
+            first_end,
+            ops,
+            at: word,
+            returned,
+            end,
+            after,
+        },
+        at,
+    ))
+}
+
 /// `{ int cfix_value = value; cfix_leave(1); return cfix_value; }`, behind the `int`.
 #[tactic(auto, unfolding(crate::specs::Jumps::value_block_from))]
 pub(crate) fn value_block_of(
@@ -129,32 +201,23 @@ pub(crate) fn value_block_of(
 ) -> Result<(ValueBlock, usize), ReadFault>
     ensures { Gives value_block_view cursor.now.tokens result (value_block_from depth before int (drop at cursor.now.tokens)) }
 {
-    let (name, at) = cursor.word(Word::Value, at)?;
-    let (set, at) = cursor.sign(Sign::Assign, at)?;
-    let (value, at) = value(cursor, alloc, depth, at)?;
-    let (value_end, at) = cursor.sign(Sign::Semicolon, at)?;
-    let (first, at) = op(cursor, at)?;
-    let (first_end, at) = cursor.sign(Sign::Semicolon, at)?;
-    let (ops, at) = ops(cursor, alloc, at)?;
-    let (word, at) = cursor.word(Word::Return, at)?;
-    let (returned, at) = cursor.word(Word::Value, at)?;
-    let (end, at) = cursor.sign(Sign::Semicolon, at)?;
-    let (after, at) = cursor.sign(Sign::CloseBrace, at)?;
+    let (start, at) = set_value_of(cursor, alloc, depth, at)?;
+    let (tail, at) = return_value_of(cursor, alloc, at)?;
     Ok((
         ValueBlock {
             before,
             int,
-            name,
-            set,
-            value,
-            value_end,
-            first,
-            first_end,
-            ops,
-            at: word,
-            returned,
-            end,
-            after,
+            name: start.name,
+            set: start.set,
+            value: start.value,
+            value_end: start.end,
+            first: tail.first,
+            first_end: tail.first_end,
+            ops: tail.ops,
+            at: tail.at,
+            returned: tail.returned,
+            end: tail.end,
+            after: tail.after,
         },
         at,
     ))

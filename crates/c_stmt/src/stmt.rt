@@ -3,7 +3,7 @@ ghost use Rattle.std.specs.Prelude.{drop};
 ghost use Rattle.c_grammar.specs.ReadStmt.{stmt_at};
 ghost use Rattle.c_raw.specs.Stmts.{stmt_view};
 ghost use Rattle.c_cursor.specs.Gives.{Gives};
-ghost use Rattle.c_stmt.specs.Stmts.{if_at, while_at, for_at};
+ghost use Rattle.c_stmt.specs.Stmts.{test_view, test_at, if_at, while_at, for_at};
 
 use crate::block::brace_of;
 use crate::choice::{choice, choice_else};
@@ -16,6 +16,29 @@ use c_raw::{LoopHead, Stmt, Test};
 use sqlite_items::Boxed;
 use std::alloc::Global;
 
+/// `if (cond)` or `while (cond)`.
+fn test_of(
+    cursor: &Cursor<'_>,
+    alloc: Global,
+    depth: u32,
+    word: Word,
+    at: usize,
+) -> Result<(Boxed<Test>, usize), ReadFault>
+    ensures { Gives test_view cursor.now.tokens result (test_at word depth (drop at cursor.now.tokens)) }
+{
+    let (word, at) = cursor.word(word, at)?;
+    let (before, at) = cursor.sign(Sign::OpenParen, at)?;
+    let (cond, at) = cond_of(cursor, alloc, depth, at)?;
+    let (after, at) = cursor.sign(Sign::CloseParen, at)?;
+    let test = Test {
+        at: word,
+        before,
+        cond,
+        after,
+    };
+    Ok((Boxed::new(alloc, test)?, at))
+}
+
 /// An `if` with its `else`, where it has one.
 #[cycle(statement)]
 #[tactic(auto, unfolding(crate::specs::Stmts::if_at))]
@@ -27,17 +50,8 @@ fn if_of(
 ) -> Result<(Stmt, usize), ReadFault>
     ensures { Gives stmt_view cursor.now.tokens result (if_at depth (drop at cursor.now.tokens)) }
 {
-    let (word, at) = cursor.word(Word::If, at)?;
-    let (before, at) = cursor.sign(Sign::OpenParen, at)?;
-    let (cond, at) = cond_of(cursor, alloc, depth, at)?;
-    let (after, at) = cursor.sign(Sign::CloseParen, at)?;
+    let (test, at) = test_of(cursor, alloc, depth, Word::If, at)?;
     let (then, at) = stmt_of(cursor, alloc, depth, at)?;
-    let test = Test {
-        at: word,
-        before,
-        cond,
-        after,
-    };
     if !cursor.is_word(Word::Else, at) {
         return Ok((choice(alloc, test, then)?, at));
     }
@@ -57,20 +71,8 @@ fn while_of(
 ) -> Result<(Stmt, usize), ReadFault>
     ensures { Gives stmt_view cursor.now.tokens result (while_at depth (drop at cursor.now.tokens)) }
 {
-    let (word, at) = cursor.word(Word::While, at)?;
-    let (before, at) = cursor.sign(Sign::OpenParen, at)?;
-    let (cond, at) = cond_of(cursor, alloc, depth, at)?;
-    let (after, at) = cursor.sign(Sign::CloseParen, at)?;
+    let (test, at) = test_of(cursor, alloc, depth, Word::While, at)?;
     let (body, at) = stmt_of(cursor, alloc, depth, at)?;
-    let test = Boxed::new(
-        alloc,
-        Test {
-            at: word,
-            before,
-            cond,
-            after,
-        },
-    )?;
     let body = Boxed::new(alloc, body)?;
     Ok((Stmt::While { test, body }, at))
 }

@@ -3,4 +3,4 @@ use Rattle.c_raw.proofs.Equations.{stmt-If}
 use Rattle.c_stmt.proofs.choice.choice.Goals as goal
 
 pub returns : goal.returns
-returns c = rw (stmt-If c.in_ok-test.test c.in_ok-then.then None, c.in_ok-test.ensures, c.in_ok-then.ensures) refl
+returns c = rw (stmt-If c.args.test c.in_ok-then.then None, c.in_ok-then.ensures) refl
