@@ -1,7 +1,9 @@
-//! Tests of what no file shows: the outside that fails as planned, and calls that no command makes.
-//! What the commands show is in `tests/`.
+//! Tests of the whole program with an outside that fails as planned, and of what the readers of reports and schedules
+//! and the sets give. What the commands show is in `tests/`.
 #![tactic(auto)]
 
+#[cfg(test)]
+mod failing;
 #[cfg(test)]
 mod outside;
 #[cfg(test)]
