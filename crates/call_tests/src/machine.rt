@@ -186,6 +186,15 @@ fn add_moment(alloc: Global, text: &mut Vec<u8>, state: &State) -> Result<(), No
     Ok(())
 }
 
+/// Makes a step that is told to be enabled.
+fn step(alloc: Global, machine: &Machine, state: &mut State, entry: Entry) -> Result<(), NoMemory> {
+    if machine.enabled(state, entry) && machine.step(alloc, state, entry).is_ok() {
+        Ok(())
+    } else {
+        Err(NoMemory)
+    }
+}
+
 /// What is told at each slash, where each digit is a step of the thread that it names.
 fn told(alloc: Global, machine: &Machine, entries: &str) -> Result<Vec<u8>, NoMemory> {
     let mut state = machine.start(alloc, &[])?;
@@ -194,11 +203,8 @@ fn told(alloc: Global, machine: &Machine, entries: &str) -> Result<Vec<u8>, NoMe
         let (thread, timeout) = (u32::from(byte.saturating_sub(b'0')), false);
         if *byte == b'/' {
             add_moment(alloc, &mut text, &state)?;
-        } else if machine
-            .step(alloc, &mut state, Entry { thread, timeout })
-            .is_err()
-        {
-            return Err(NoMemory);
+        } else {
+            step(alloc, machine, &mut state, Entry { thread, timeout })?;
         }
     }
     let ending = format!(in alloc; "{:?}", state.ending())?;
@@ -218,5 +224,34 @@ fn a_state_tells_of_its_frames_and_threads(rt: HostRuntime) -> Result<(), Fail> 
         let told = told(rt.alloc(), &machine, entries)?;
         assert_eq!(rt; told.as_slice(), want.as_bytes());
     }
+    Ok(())
+}
+
+/// The product of the numbers from 1 to the one that is read.
+const PRODUCT: &[u8] =
+    b"int product(int n) { if (n == 0) return 1; int rest = product(n - 1); return rest * n; } \
+int main(void) { int n; scanf(\"%d\", &n); n = product(n); printf(\"%d \", n); }";
+
+/// What main alone prints in at most a thousand steps, if its run ends.
+fn printed(alloc: Global, machine: &Machine, input: &[i32]) -> Result<Vec<u8>, NoMemory> {
+    let mut state = machine.start(alloc, input)?;
+    let (thread, timeout) = (0, false);
+    for _ in 0..1000 {
+        if machine.enabled(&state, Entry { thread, timeout }) {
+            step(alloc, machine, &mut state, Entry { thread, timeout })?;
+        }
+    }
+    let text = format!(in alloc; "{:?} ", state.ending())?;
+    let mut out = Vec::from_slice(alloc, text.as_bytes())?;
+    out.extend_from_slice(state.output())?;
+    Ok(out)
+}
+
+#[test]
+fn the_last_product_that_a_number_holds_is_printed(rt: HostRuntime) -> Result<(), Fail> {
+    let source = source(rt.alloc(), PRODUCT).expect(&rt, "a program");
+    let machine = machine(rt.alloc(), source.program())?;
+    let out = printed(rt.alloc(), &machine, &[12])?;
+    assert_eq!(rt; out.as_slice(), b"End 479001600 ".as_slice());
     Ok(())
 }

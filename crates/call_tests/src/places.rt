@@ -36,11 +36,83 @@ const FAULTS: [(&[u8], FlawKind, u32, u32); 12] = [
     (b"#define CFIX_START_1000 1\n", FlawKind::Limit, 8, 1),
 ];
 
+// The same where the name stands in a directive.
+const DIRECTIVES: [(&[u8], FlawKind, u32, u32); 11] = [
+    (
+        b"int N;\n#define N 1\nint main(void) { int N; }",
+        FlawKind::Twice,
+        15,
+        2,
+    ),
+    (
+        b"#define CFIX_START_1 1\n#define CFIX_START_1 1\nint main(void) { }",
+        FlawKind::Twice,
+        31,
+        2,
+    ),
+    (
+        b"void f(void) { }\n#define f 1\nint main(void) { }",
+        FlawKind::Twice,
+        25,
+        2,
+    ),
+    (
+        b"#define CFIX_START_ 1\nint main(void) { }",
+        FlawKind::Reserved,
+        8,
+        1,
+    ),
+    (
+        b"#define CFIX_START_2147483648 1\nint main(void) { }",
+        FlawKind::Reserved,
+        8,
+        1,
+    ),
+    (
+        b"#define CFIX_START_x 1\nint main(void) { }",
+        FlawKind::Reserved,
+        8,
+        1,
+    ),
+    (
+        b"#define CFIX_START_999 (10)\nint main(void) { }",
+        FlawKind::WrongUse,
+        8,
+        1,
+    ),
+    (
+        b"#define CFIX_START_10 2147483647\nint main(void) { }",
+        FlawKind::WrongUse,
+        8,
+        1,
+    ),
+    (
+        b"#define CFIX_START_2147483647 1\nint main(void) { }",
+        FlawKind::Limit,
+        8,
+        1,
+    ),
+    (
+        b"#define CFIX_START_1000 2\nint main(void) { }",
+        FlawKind::WrongUse,
+        8,
+        1,
+    ),
+    (
+        b"#define CFIX_START_0 2\nint main(void) { }",
+        FlawKind::WrongUse,
+        8,
+        1,
+    ),
+];
+
 #[test]
 fn faults_have_bytes_and_lines(rt: HostRuntime) {
-    for (index, (text, kind, at, line)) in FAULTS.iter().enumerate() {
-        let told = fault_of(rt.alloc(), text);
-        assert!(rt; told == Some((*kind, *at, *line)), "at {index}");
+    for faults in [FAULTS.as_slice(), DIRECTIVES.as_slice()] {
+        for (index, (text, kind, at, line)) in faults.iter().enumerate() {
+            let told = fault_of(rt.alloc(), text);
+            assert!(rt; told == Some((*kind, *at, *line)), "at {index}");
+        }
     }
 }
 
@@ -98,7 +170,7 @@ fn told_is(alloc: Global, text: &[u8], expected: &[u8]) -> bool {
 }
 
 // Texts with the lines of the names of their accesses and of the functions that they call.
-const LINES: [(&[u8], &[u8]); 6] = [
+const LINES: [(&[u8], &[u8]); 15] = [
     (
         b"#include <pthread.h>\nint count;\nvoid *worker(void *arg) {\n    count++;\n    return NULL;\n}\nint main(void) {\n    printf(\"%d\\n\",\n        count);\n}\n",
         b"r0:4 w0:4 r0:9 ",
@@ -122,6 +194,43 @@ const LINES: [(&[u8], &[u8]); 6] = [
     (
         b"void f(void) { }\nint main(void) {\n  if (1) f(); else\n    f();\n  pthread_t t;\n  pthread_join(t, NULL);\n}",
         b"1:3 2:4 ",
+    ),
+    // A local hides the global of its name.
+    (
+        b"int x;\nint main(void) {\n  x = 1;\n  int x;\n  x = 2;\n  {\n    x = 3;\n  }\n}",
+        b"w0:3 ",
+    ),
+    (
+        b"int x;\nint main(void) {\n  {\n    int x;\n    x = 1;\n  }\n  x = 2;\n}",
+        b"w0:7 ",
+    ),
+    (
+        b"int x;\nvoid f(int x) {\n  x = 1;\n}\nint main(void) {\n  x = 2;\n}",
+        b"w0:6 ",
+    ),
+    (
+        b"int x;\nint main(void) {\n  for (int x = 0; x < 2; x++)\n    x = 5;\n  x = 6;\n}",
+        b"w0:5 ",
+    ),
+    (
+        b"int x;\nint main(void) {\n  int y = x;\n  int z = 1, x = x;\n}",
+        b"r0:3 ",
+    ),
+    (
+        b"int x;\nint main(void) {\n  if (x) {\n    int x;\n    x = 1;\n  } else\n    x = 2;\n}",
+        b"r0:3 w0:7 ",
+    ),
+    (
+        b"int x;\nint main(void) {\n  while (x < 3) {\n    int x = 1;\n    x++;\n  }\n}",
+        b"r0:3 ",
+    ),
+    (
+        b"int x;\nint main(void) {\n  for (int y = x; ; ) {\n    int x;\n    x = 1;\n    break;\n  }\n}",
+        b"r0:3 ",
+    ),
+    (
+        b"int x;\nint main(void) {\n  y = 1;\n  x = z[2];\n}\nint y, z[3];",
+        b"w1:3 r2:4 w0:4 ",
     ),
 ];
 
