@@ -17,7 +17,7 @@ pub enum Look {
     Sign(Sign),
 }
 
-const WORDS: [Word; 29] = [
+const WORDS: [Word; 34] = [
     Word::Break,
     Word::Continue,
     Word::Else,
@@ -40,6 +40,11 @@ const WORDS: [Word; 29] = [
     Word::Lock,
     Word::Unlock,
     Word::MutexInitializer,
+    Word::Cond,
+    Word::CondWait,
+    Word::Signal,
+    Word::Broadcast,
+    Word::CondInitializer,
     Word::Enter,
     Word::Leave,
     Word::Wait,
@@ -111,6 +116,11 @@ fn spelled(word: Word) -> &'static [u8]
         Word::Lock => b"pthread_mutex_lock",
         Word::Unlock => b"pthread_mutex_unlock",
         Word::MutexInitializer => b"PTHREAD_MUTEX_INITIALIZER",
+        Word::Cond => b"pthread_cond_t",
+        Word::CondWait => b"pthread_cond_wait",
+        Word::Signal => b"pthread_cond_signal",
+        Word::Broadcast => b"pthread_cond_broadcast",
+        Word::CondInitializer => b"PTHREAD_COND_INITIALIZER",
         Word::Enter => b"cfix_enter",
         Word::Leave => b"cfix_leave",
         Word::Wait => b"cfix_wait",

@@ -3,15 +3,15 @@ use Rattle.std.proofs.Common.{◌≡◌, ◌≢◌, ℕ, zero, suc, ◌-◌, Boo
 use Rattle.cfix_base.specs.declared.Spot.{Spot}
 use Rattle.c_grammar.specs.declared.word.Word.TheVariants as w
 use Rattle.c_grammar.specs.declared.sign.Sign.TheVariants as s
-use Rattle.c_grammar.specs.Reader.{Unexpected, Out, Got, Stop, next, seq, map_out, begins}
+use Rattle.c_grammar.specs.Reader.{Unexpected, Out, Got, Stop, next, seq, map_out, begins, either}
 use Rattle.c_grammar.specs.Token.{Token, Numeral}
 use Rattle.c_grammar.specs.Expr.{Prefix, Long, Expr, Number}
 use Rattle.c_grammar.specs.Simple.{NullArg, CastArg}
 use Rattle.c_grammar.specs.Read.{is_word, is_name, is_number, read_word, read_sign, read_numeral}
 use Rattle.c_grammar.specs.ReadExpr.{is_prefix, CastParts, NameParts, name_from, paren_from, inside_with, unary_at, expr_at, prefix_at}
-use Rattle.c_grammar.specs.ReadSimple.{is_paren, CastTail, cast_from, cast_tail_at, cast_unary_at, CastArgParts, thread_arg_from, cast_arg_at, thread_arg_at, library_from, create_at, join_at, lock_tail, print_at, scan_at, library_at, CreateParts, JoinParts, LockParts, PrintParts, ScanParts}
+use Rattle.c_grammar.specs.ReadSimple.{is_paren, CastTail, cast_from, cast_tail_at, cast_unary_at, CastArgParts, thread_arg_from, cast_arg_at, thread_arg_at, library_from, create_at, join_at, lock_tail, print_at, scan_at, wait_at, library_at, CreateParts, JoinParts, LockParts, PrintParts, ScanParts, WaitParts, WakeParts}
 use Rattle.c_expr.specs.Parts.{unary_from, inside_at}
-use Rattle.c_expr.specs.Calls.{cast_in, arg_from, create_from, join_from, lock_from, unlock_from, print_from, scan_from}
+use Rattle.c_expr.specs.Calls.{cast_in, arg_from, create_from, join_from, lock_from, unlock_from, print_from, scan_from, wait_from, signal_from, broadcast_from, condition_at}
 use Rattle.c_expr.proofs.OneKind.{paren-prefix, paren-number, paren-name}
 use Rattle.c_expr.proofs.Steps.{sign-none, paren-none, unary-prefix, unary-number, unary-name, unary-paren}
 
@@ -140,10 +140,25 @@ module _ (c d : ℕ) (ts : List Token) where
               by (Got x r) = refl
               by (Stop f r) = refl
 
-          pub library-scan : begins (is_word w.Printf) ts ≡ false → library_at c d ts ≡ map_out scan_from (scan_at c d ts)
-          unfolding library_at
-          library-scan h = rw (no_create, no_join, no_lock, no_unlock, h) (by (scan_at c d ts))
-            where
-              by : (o : Out Token ScanParts) → map_out library_from (map_out inr (map_out inr (map_out inr (map_out inr (map_out inr o))))) ≡ map_out scan_from o
-              by (Got x r) = refl
-              by (Stop f r) = refl
+          module _ (no_print : begins (is_word w.Printf) ts ≡ false) where
+            pub library-scan : begins (is_word w.Scanf) ts ≡ true → library_at c d ts ≡ map_out scan_from (scan_at c d ts)
+            unfolding library_at
+            library-scan h = rw (no_create, no_join, no_lock, no_unlock, no_print, h) (by (scan_at c d ts))
+              where
+                by : (o : Out Token ScanParts) → map_out library_from (map_out inr (map_out inr (map_out inr (map_out inr (map_out inr (map_out inl o)))))) ≡ map_out scan_from o
+                by (Got x r) = refl
+                by (Stop f r) = refl
+
+            pub library-condition : begins (is_word w.Scanf) ts ≡ false → library_at c d ts ≡ condition_at ts
+            unfolding library_at
+            library-condition h = rw (no_create, no_join, no_lock, no_unlock, no_print, h) (by (begins (is_word w.CondWait) ts) (begins (is_word w.Signal) ts) (wait_at ts) (seq (read_word w.Signal) lock_tail ts) (seq (read_word w.Broadcast) lock_tail ts))
+              where
+                by : (is_wait is_signal : Bool) (wait : Out Token WaitParts) (signal broadcast : Out Token WakeParts)
+                    → map_out library_from (map_out inr (map_out inr (map_out inr (map_out inr (map_out inr (map_out inr (either is_wait (map_out inl wait) (map_out inr (either is_signal (map_out inl signal) (map_out inr broadcast))))))))))
+                    ≡ either is_wait (map_out wait_from wait) (either is_signal (map_out signal_from signal) (map_out broadcast_from broadcast))
+                by true v (Got x r) signal broadcast = refl
+                by true v (Stop f r) signal broadcast = refl
+                by false true wait (Got x r) broadcast = refl
+                by false true wait (Stop f r) broadcast = refl
+                by false false wait signal (Got x r) = refl
+                by false false wait signal (Stop f r) = refl

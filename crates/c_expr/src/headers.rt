@@ -1,13 +1,13 @@
 //! The calls of the headers.
 
 ghost use Rattle.std.specs.Prelude.{◌≡◌, drop};
-ghost use Rattle.c_grammar.specs.ReadSimple.{cast_tail_at, cast_unary_at, cast_arg_at, thread_arg_at, create_at, join_at, lock_tail, print_at, scan_at, library_at};
+ghost use Rattle.c_grammar.specs.ReadSimple.{cast_tail_at, cast_unary_at, cast_arg_at, thread_arg_at, create_at, join_at, lock_tail, print_at, scan_at, wait_at, library_at};
 ghost use Rattle.c_grammar.specs.Reader.{map_out, seq};
 ghost use Rattle.c_grammar.specs.Read.{read_word};
 ghost use Rattle.c_grammar.specs.declared.word.Word.TheVariants as w;
 ghost use Rattle.c_raw.specs.Simples.{thread_arg_view, create_view, library_view};
 ghost use Rattle.c_cursor.specs.Gives.{Gives};
-ghost use Rattle.c_expr.specs.Calls.{cast_view, cast_in, arg_from, create_from, join_from, lock_from, unlock_from, print_from, scan_from};
+ghost use Rattle.c_expr.specs.Calls.{cast_view, cast_in, arg_from, create_from, join_from, lock_from, unlock_from, print_from, scan_from, wait_from, signal_from, broadcast_from, condition_at};
 
 use crate::arguments::more_exprs;
 use crate::expressions::{inside, unary};
@@ -272,6 +272,79 @@ fn scan(
     Ok((scan, at))
 }
 
+fn wait(cursor: &Cursor<'_>, alloc: Global, at: usize) -> Result<(Library, usize), ReadFault>
+    ensures { Gives library_view cursor.now.tokens result (map_out wait_from (wait_at (drop at cursor.now.tokens))) }
+{
+    let (word, at) = cursor.word(Word::CondWait, at)?;
+    let (before, at) = cursor.sign(Sign::OpenParen, at)?;
+    let (cond_amp, at) = cursor.sign(Sign::Ampersand, at)?;
+    let (cond, at) = cursor.ident(alloc, at)?;
+    let (comma, at) = cursor.sign(Sign::Comma, at)?;
+    let (mutex_amp, at) = cursor.sign(Sign::Ampersand, at)?;
+    let (mutex, at) = cursor.ident(alloc, at)?;
+    let (after, at) = cursor.sign(Sign::CloseParen, at)?;
+    let wait = Library::Wait {
+        at: word,
+        before,
+        cond_amp,
+        cond,
+        comma,
+        mutex_amp,
+        mutex,
+        after,
+    };
+    Ok((wait, at))
+}
+
+fn signal(cursor: &Cursor<'_>, alloc: Global, at: usize) -> Result<(Library, usize), ReadFault>
+    ensures { Gives library_view cursor.now.tokens result (map_out signal_from (seq (read_word w.Signal) lock_tail (drop at cursor.now.tokens))) }
+{
+    let (word, at) = cursor.word(Word::Signal, at)?;
+    let (before, at) = cursor.sign(Sign::OpenParen, at)?;
+    let (amp, at) = cursor.sign(Sign::Ampersand, at)?;
+    let (cond, at) = cursor.ident(alloc, at)?;
+    let (after, at) = cursor.sign(Sign::CloseParen, at)?;
+    let signal = Library::Signal {
+        at: word,
+        before,
+        amp,
+        cond,
+        after,
+    };
+    Ok((signal, at))
+}
+
+fn broadcast(cursor: &Cursor<'_>, alloc: Global, at: usize) -> Result<(Library, usize), ReadFault>
+    ensures { Gives library_view cursor.now.tokens result (map_out broadcast_from (seq (read_word w.Broadcast) lock_tail (drop at cursor.now.tokens))) }
+{
+    let (word, at) = cursor.word(Word::Broadcast, at)?;
+    let (before, at) = cursor.sign(Sign::OpenParen, at)?;
+    let (amp, at) = cursor.sign(Sign::Ampersand, at)?;
+    let (cond, at) = cursor.ident(alloc, at)?;
+    let (after, at) = cursor.sign(Sign::CloseParen, at)?;
+    let broadcast = Library::Broadcast {
+        at: word,
+        before,
+        amp,
+        cond,
+        after,
+    };
+    Ok((broadcast, at))
+}
+
+// A call on a condition variable.
+fn condition(cursor: &Cursor<'_>, alloc: Global, at: usize) -> Result<(Library, usize), ReadFault>
+    ensures { Gives library_view cursor.now.tokens result (condition_at (drop at cursor.now.tokens)) }
+{
+    if cursor.is_word(Word::CondWait, at) {
+        return wait(cursor, alloc, at);
+    }
+    if cursor.is_word(Word::Signal, at) {
+        return signal(cursor, alloc, at);
+    }
+    broadcast(cursor, alloc, at)
+}
+
 /// A call of the headers.
 pub fn library(
     cursor: &Cursor<'_>,
@@ -298,5 +371,8 @@ pub fn library(
     if cursor.is_word(Word::Printf, at) {
         return print(cursor, alloc, depth, at);
     }
-    scan(cursor, alloc, depth, at)
+    if cursor.is_word(Word::Scanf, at) {
+        return scan(cursor, alloc, depth, at);
+    }
+    condition(cursor, alloc, at)
 }

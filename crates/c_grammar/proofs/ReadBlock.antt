@@ -7,7 +7,7 @@ use Rattle.c_grammar.specs.declared.sign.Sign.TheVariants as s
 use Rattle.c_grammar.specs.Reader.{Out, first, tokens, Lang, toks, each, seq, holds, alt}
 use Rattle.c_grammar.specs.Token.{Kind, IsWord, IsSign, Token, sign, word, Mark}
 use Rattle.c_grammar.specs.Op.{Ops, ops_marks}
-use Rattle.c_grammar.specs.Simple.{TargetOf, CallOf, Computed, SetTo, Changed, SteppedAfter, SteppedBefore, Step, Up, Down, step_sign, Create, Join, Lock, Unlock, Print, Scan, Simple, PlainPart, SetCall, OnlyCall, LibraryPart, simple_marks}
+use Rattle.c_grammar.specs.Simple.{TargetOf, CallOf, Computed, SetTo, Changed, SteppedAfter, SteppedBefore, Step, Up, Down, step_sign, Create, Join, Lock, Unlock, Print, Scan, Wait, Signal, Broadcast, Simple, PlainPart, SetCall, OnlyCall, LibraryPart, simple_marks}
 use Rattle.c_grammar.specs.Decl.{LocalInt, OneLocal, Hold, Decl, Ints, Holds, is_decl, decl_marks, local_int_marks}
 use Rattle.c_grammar.specs.Stmt.{Break, Continue, Return, ReturnNull, bare_marks, Jump, BareJump, ReturnValue, BareBlock, ValueBlock, jump_marks, First, LoopStep, Stmt, Block, Nothing, Simply, Jumps, If, While, For, Else, NoElse, ElseDo, Items, NoItems, AndItem, Item, Declares, Does, is_open, is_open_else, has_else, is_stmt, is_else, are_items, is_item, stmt_marks, else_marks, items_marks, item_marks}
 use Rattle.c_grammar.specs.Stmt as stmt
@@ -54,6 +54,9 @@ simple_begins d (LibraryPart (Lock a b c e f)) more h = refl
 simple_begins d (LibraryPart (Unlock a b c e f)) more h = refl
 simple_begins d (LibraryPart (Print a b c e f)) more h = refl
 simple_begins d (LibraryPart (Scan a b c e f g i)) more h = refl
+simple_begins d (LibraryPart (Wait a b c e f g i j)) more h = refl
+simple_begins d (LibraryPart (Signal a b c e f)) more h = refl
+simple_begins d (LibraryPart (Broadcast a b c e f)) more h = refl
 
 pub stmt_begins : (d : ℕ) (st : Stmt) (more : List Mark) (h : Option Token) → holds begins_stmt (first (tokens (stmt_marks d st ++ more)) h) ≡ true
 stmt_begins d (Block before items after) more h = refl

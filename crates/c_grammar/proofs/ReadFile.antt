@@ -8,7 +8,7 @@ use Rattle.c_grammar.specs.declared.word.Word.TheVariants as w
 use Rattle.c_grammar.specs.declared.sign.Sign.TheVariants as s
 use Rattle.c_grammar.specs.Reader.{Fault, Unexpected, Out, Got, Stop, next, head, first, tokens, Lang, toks, deep, outcome, each, holds, many}
 use Rattle.c_grammar.specs.Token.{Token, Ident, Text, ident, sign, word, Mark}
-use Rattle.c_grammar.specs.Decl.{GlobalInt, OneGlobal, SetGlobal, GlobalArray, global_int_marks, GlobalInts, GlobalHolds, GlobalMutexes, Static, Volatile}
+use Rattle.c_grammar.specs.Decl.{GlobalInt, OneGlobal, SetGlobal, GlobalArray, global_int_marks, GlobalInts, GlobalHolds, GlobalMutexes, GlobalConds, Static, Volatile}
 use Rattle.c_grammar.specs.Stmt.{are_items}
 use Rattle.c_grammar.specs.File.{Angled, Quoted, Plainly, InParens, Return, ReturnsInt, ReturnsVoid, return_word, Params, Head, PlainHead, ThreadHead, Top, Include, Define, Variables, Prototype, Function, File, static_marks, params_marks, name_marks, head_marks, top_marks, file_marks, file_tokens, is_top, is_header, stands_on, line_of, is_later, is_file}
 use Rattle.c_grammar.specs.ReadFile.{ReplacementParts, replacement_from, Qualifiers, heads_allowed, static_of, HeadEnd, HeadTail, TopParts, with_end, top_from, top_at, begins_top, checked_at, checked, read_file}
@@ -22,7 +22,7 @@ use Rattle.c_grammar.proofs.ReadExpr.{and_true}
 use Rattle.c_grammar.proofs.ReadOp.{ops_good}
 use Rattle.c_grammar.proofs.ReadHead.{qualifiers_lang, qualifiers_good, head_end_lang, head_tail_lang}
 use Rattle.c_grammar.proofs.ReadLine.{inside_good}
-use Rattle.c_grammar.proofs.ReadTop.{global_int_marks_is, globals_tail_good, hold_parts_good, mutexes_good, thread_head_lang, top_parts, top_parts_reader}
+use Rattle.c_grammar.proofs.ReadTop.{global_int_marks_is, globals_tail_good, hold_parts_good, mutexes_good, conds_good, thread_head_lang, top_parts, top_parts_reader}
 
 -- ---- from a tree to its parts and back
 
@@ -32,8 +32,8 @@ qualifiers_of (Some at) = (Static, at) ∷ []
 
 abbrev head_to : Head → HeadEnd → TopParts
 head_to (PlainHead st ReturnsInt at x before ps after) e = inr (qualifiers_of st, inl (at, (x, inl (before, (ps, (after, e))))))
-head_to (PlainHead st ReturnsVoid at x before ps after) e = inr (qualifiers_of st, inr (inr (inr (at, inr (x, (before, (ps, (after, e))))))))
-head_to (ThreadHead st at star x before void star2 p after) e = inr (qualifiers_of st, inr (inr (inr (at, inl (star, (x, (before, (void, (star2, (p, (after, e)))))))))))
+head_to (PlainHead st ReturnsVoid at x before ps after) e = inr (qualifiers_of st, inr (inr (inr (inl (at, inr (x, (before, (ps, (after, e)))))))))
+head_to (ThreadHead st at star x before void star2 p after) e = inr (qualifiers_of st, inr (inr (inr (inl (at, inl (star, (x, (before, (void, (star2, (p, (after, e))))))))))))
 
 abbrev global_to : Qualifiers → Spot → GlobalInt → List (Spot × GlobalInt) → Spot → TopParts
 global_to q at (OneGlobal x) more end = inr (q, inl (at, (x, inr (inr None, (more, end)))))
@@ -48,6 +48,7 @@ top_to (Define at name x (InParens before n after)) = inl (at, inr (name, (x, in
 top_to (Variables q (GlobalInts at g more) end) = global_to q at g more end
 top_to (Variables q (GlobalHolds at x more) end) = inr (q, inr (inl ((at, (x, more)), end)))
 top_to (Variables q (GlobalMutexes at x more) end) = inr (q, inr (inr (inl ((at, (x, more)), end))))
+top_to (Variables q (GlobalConds at x more) end) = inr (q, inr (inr (inr (inr ((at, (x, more)), end)))))
 top_to (Prototype head end) = head_to head (inl end)
 top_to (Function head before ops items after) = head_to head (inr (before, (ops, (items, after))))
 
@@ -69,6 +70,7 @@ top_back (Variables q (GlobalInts at (SetGlobal x set minus n) more) end) = refl
 top_back (Variables q (GlobalInts at (GlobalArray x before n after) more) end) = refl
 top_back (Variables q (GlobalHolds at x more) end) = refl
 top_back (Variables q (GlobalMutexes at x more) end) = refl
+top_back (Variables q (GlobalConds at x more) end) = refl
 top_back (Prototype head end) = head_back head (inl end)
 top_back (Function head before ops items after) = head_back head (inr (before, (ops, (items, after))))
 
@@ -128,8 +130,9 @@ top_marks_is (inr (q, inl (at, (x, inr t)))) g =
     ∙ ap (λ (z : List Mark). z ++ (each (λ y. (sign s.Comma y.0, 0) ∷ global_int_marks 0 y.1) t.1.0 ++ (sign s.Semicolon t.1.1, 0) ∷ [])) (global_int_marks_is (x, t.0)))
 top_marks_is (inr (q, inr (inl x))) g = refl
 top_marks_is (inr (q, inr (inr (inl x)))) g = refl
-top_marks_is (inr (q, inr (inr (inr (at, inl (star, (x, (before, (void, (star2, (p, (after, e)))))))))))) g = thread_top q at star x before void star2 p after e (and_parts _ _ (and_parts _ _ g).1).0
-top_marks_is (inr (q, inr (inr (inr (at, inr (x, t)))))) g = plain_top q ReturnsVoid at x t (and_parts _ _ (and_parts _ _ g).1).0
+top_marks_is (inr (q, inr (inr (inr (inl (at, inl (star, (x, (before, (void, (star2, (p, (after, e))))))))))))) g = thread_top q at star x before void star2 p after e (and_parts _ _ (and_parts _ _ g).1).0
+top_marks_is (inr (q, inr (inr (inr (inl (at, inr (x, t))))))) g = plain_top q ReturnsVoid at x t (and_parts _ _ (and_parts _ _ g).1).0
+top_marks_is (inr (q, inr (inr (inr (inr x))))) g = refl
 
 -- ---- the tests
 
@@ -202,6 +205,7 @@ top_good_back (Variables q (GlobalInts at (SetGlobal x set minus n) more) end) g
 top_good_back (Variables q (GlobalInts at (GlobalArray x before n after) more) end) g = and_from _ _ (qualifiers_good q) (globals_tail_good (inr (Some (before, (n, after))), (more, end)))
 top_good_back (Variables q (GlobalHolds at x more) end) g = and_from _ _ (qualifiers_good q) (hold_parts_good ((at, (x, more)), end))
 top_good_back (Variables q (GlobalMutexes at x more) end) g = and_from _ _ (qualifiers_good q) (mutexes_good ((at, (x, more)), end))
+top_good_back (Variables q (GlobalConds at x more) end) g = and_from _ _ (qualifiers_good q) (conds_good ((at, (x, more)), end))
 top_good_back (Prototype head end) g = head_to_good head (inl end) refl
 top_good_back (Function head before ops items after) g = head_to_good head (inr (before, (ops, (items, after)))) (sym (end_good head (inr (before, (ops, (items, after))))) ∙ g)
 
@@ -213,9 +217,10 @@ top_good (inr (q, inl (at, (x, inl t)))) g = end_good (PlainHead (static_of q) R
 top_good (inr (q, inl (at, (x, inr t)))) g = refl
 top_good (inr (q, inr (inl x))) g = refl
 top_good (inr (q, inr (inr (inl x)))) g = refl
-top_good (inr (q, inr (inr (inr (at, inl (star, (x, (before, (void, (star2, (None, (after, e)))))))))))) g = end_good (ThreadHead (static_of q) at star x before void star2 None after) e ∙ (and_parts _ _ (and_parts _ _ g).1).1
-top_good (inr (q, inr (inr (inr (at, inl (star, (x, (before, (void, (star2, (Some p, (after, e)))))))))))) g = end_good (ThreadHead (static_of q) at star x before void star2 (Some p) after) e ∙ (and_parts _ _ (and_parts _ _ g).1).1
-top_good (inr (q, inr (inr (inr (at, inr (x, t)))))) g = end_good (PlainHead (static_of q) ReturnsVoid at x t.0 t.1.0 t.1.1.0) t.1.1.1 ∙ (and_parts _ _ (and_parts _ _ g).1).1
+top_good (inr (q, inr (inr (inr (inl (at, inl (star, (x, (before, (void, (star2, (None, (after, e))))))))))))) g = end_good (ThreadHead (static_of q) at star x before void star2 None after) e ∙ (and_parts _ _ (and_parts _ _ g).1).1
+top_good (inr (q, inr (inr (inr (inl (at, inl (star, (x, (before, (void, (star2, (Some p, (after, e))))))))))))) g = end_good (ThreadHead (static_of q) at star x before void star2 (Some p) after) e ∙ (and_parts _ _ (and_parts _ _ g).1).1
+top_good (inr (q, inr (inr (inr (inl (at, inr (x, t))))))) g = end_good (PlainHead (static_of q) ReturnsVoid at x t.0 t.1.0 t.1.1.0) t.1.1.1 ∙ (and_parts _ _ (and_parts _ _ g).1).1
+top_good (inr (q, inr (inr (inr (inr x))))) g = refl
 
 abbrev top_lang : Lang Token Top
 top_lang = record { marks = top_marks; good = is_top; stops = λ _ _. true }
@@ -305,6 +310,7 @@ top_begins (Define at name x r) h = refl
 top_begins (Variables [] (GlobalInts at x more) end) h = refl
 top_begins (Variables [] (GlobalHolds at x more) end) h = refl
 top_begins (Variables [] (GlobalMutexes at x more) end) h = refl
+top_begins (Variables [] (GlobalConds at x more) end) h = refl
 top_begins (Variables ((Static, at) ∷ q) globals end) h = refl
 top_begins (Variables ((Volatile, at) ∷ q) globals end) h = refl
 top_begins (Prototype (PlainHead None ReturnsInt at x before ps after) end) h = refl

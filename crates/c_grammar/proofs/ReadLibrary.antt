@@ -7,10 +7,10 @@ use Rattle.c_grammar.specs.declared.sign.Sign.TheVariants as s
 use Rattle.c_grammar.specs.Reader.{first, tokens, Lang, toks, seq, holds}
 use Rattle.c_grammar.specs.Token.{Kind, IsWord, Token, Text, sign, word}
 use Rattle.c_grammar.specs.Expr.{Expr, Number, Name, Index, Paren, Cast, Unary, Operation, Long, long_pieces, is_unary, is_expr, pieces, placed}
-use Rattle.c_grammar.specs.Simple.{TargetOf, is_target, ThreadArg, NullArg, CastArg, is_thread_arg, thread_arg_marks, Library, Create, Join, Lock, Unlock, Print, Scan, is_library, library_marks}
+use Rattle.c_grammar.specs.Simple.{TargetOf, is_target, ThreadArg, NullArg, CastArg, is_thread_arg, thread_arg_marks, Library, Create, Join, Lock, Unlock, Print, Scan, Wait, Signal, Broadcast, is_library, library_marks}
 use Rattle.c_grammar.specs.Read.{is_word, is_word_kind, read_word, read_sign, read_ident, read_text, commas}
 use Rattle.c_grammar.specs.ReadExpr.{begins_expr, begins_expr_kind, NameParts, Operand, CastParts, expr_at, index_at}
-use Rattle.c_grammar.specs.ReadSimple.{is_paren, target_at, LongParts, CastTail, cast_from, cast_tail_at, cast_unary_at, CastArgParts, thread_arg_from, cast_arg_at, thread_arg_at, CreateParts, JoinParts, LockParts, PrintParts, ScanParts, LibraryParts, library_from, create_at, join_at, lock_tail, print_at, scan_at, library_at}
+use Rattle.c_grammar.specs.ReadSimple.{is_paren, target_at, LongParts, CastTail, cast_from, cast_tail_at, cast_unary_at, CastArgParts, thread_arg_from, cast_arg_at, thread_arg_at, CreateParts, JoinParts, LockParts, PrintParts, ScanParts, WaitParts, WakeParts, LibraryParts, library_from, create_at, join_at, lock_tail, print_at, scan_at, wait_at, library_at}
 use Rattle.c_grammar.proofs.Reader.{IsReader, pair, seq_reader, map_reader, choice, choice_reader, shut_reader}
 use Rattle.c_grammar.proofs.Token.{no_spot, only_sign_token, word_lang, sign_lang, ident_lang, text_lang, word_reader, sign_reader, ident_reader, text_reader}
 use Rattle.c_grammar.proofs.Commas.{commas_lang, commas_reader}
@@ -302,33 +302,114 @@ scan_reader limit r d h =
     (λ a b k g1 g2 e. (refl, refl)) (some_text, (no_spot, (no_spot, ((TargetOf some_ident None), no_spot)))) refl)
     (λ a b k g1 g2 e. (refl, refl)) (no_spot, (some_text, (no_spot, (no_spot, ((TargetOf some_ident None), no_spot))))) refl
 
-abbrev library_parts : ℕ → Lang Token LibraryParts
-library_parts d = (choice (create_lang d) (choice (join_lang d) (choice (lock_lang d) (choice (unlock_lang d) (choice (print_lang d) (scan_lang d))))))
+abbrev wait_lang : ℕ → Lang Token WaitParts
+wait_lang d = (pair (word_lang w.CondWait d) (pair (sign_lang s.OpenParen d) (pair (sign_lang s.Ampersand d) (pair (ident_lang d) (pair (sign_lang s.Comma d) (pair (sign_lang s.Ampersand d) (pair (ident_lang d) (sign_lang s.CloseParen d) (λ _ _. true)) (λ _ _. true)) (λ _ _. true)) (λ _ _. true)) (λ _ _. true)) (λ _ _. true)) (λ _ _. true))
 
-not_0 : (d : ℕ) (c : JoinParts ⊎ (LockParts ⊎ (LockParts ⊎ (PrintParts ⊎ ScanParts)))) (h : Option Token) → holds (is_word w.Create) (first (toks (choice (join_lang d) (choice (lock_lang d) (choice (unlock_lang d) (choice (print_lang d) (scan_lang d))))) c) h) ≡ false
+wait_reader : (limit r d : ℕ) → r + d ≡ limit → IsReader limit (wait_lang d) wait_at
+wait_reader limit r d h =
+    let hd : d ≤ limit = omega (arith, h) in
+    seq_reader limit _ _ (λ _ _. true) (read_word w.CondWait) _ (word_reader limit d hd w.CondWait)
+    (seq_reader limit _ _ (λ _ _. true) (read_sign s.OpenParen) _ (sign_reader limit d hd s.OpenParen)
+    (seq_reader limit _ _ (λ _ _. true) (read_sign s.Ampersand) _ (sign_reader limit d hd s.Ampersand)
+    (seq_reader limit _ _ (λ _ _. true) read_ident _ (ident_reader limit d hd)
+    (seq_reader limit _ _ (λ _ _. true) (read_sign s.Comma) _ (sign_reader limit d hd s.Comma)
+    (seq_reader limit _ _ (λ _ _. true) (read_sign s.Ampersand) _ (sign_reader limit d hd s.Ampersand)
+    (seq_reader limit _ _ (λ _ _. true) read_ident _ (ident_reader limit d hd)
+    (sign_reader limit d hd s.CloseParen)
+    (λ a b k g1 g2 e. (refl, refl)) no_spot refl)
+    (λ a b k g1 g2 e. (refl, refl)) (some_ident, no_spot) refl)
+    (λ a b k g1 g2 e. (refl, refl)) (no_spot, (some_ident, no_spot)) refl)
+    (λ a b k g1 g2 e. (refl, refl)) (no_spot, (no_spot, (some_ident, no_spot))) refl)
+    (λ a b k g1 g2 e. (refl, refl)) (some_ident, (no_spot, (no_spot, (some_ident, no_spot)))) refl)
+    (λ a b k g1 g2 e. (refl, refl)) (no_spot, (some_ident, (no_spot, (no_spot, (some_ident, no_spot))))) refl)
+    (λ a b k g1 g2 e. (refl, refl)) (no_spot, (no_spot, (some_ident, (no_spot, (no_spot, (some_ident, no_spot)))))) refl
+
+abbrev signal_lang : ℕ → Lang Token WakeParts
+signal_lang d = (pair (word_lang w.Signal d) (pair (sign_lang s.OpenParen d) (pair (sign_lang s.Ampersand d) (pair (ident_lang d) (sign_lang s.CloseParen d) (λ _ _. true)) (λ _ _. true)) (λ _ _. true)) (λ _ _. true))
+
+signal_reader : (limit r d : ℕ) → r + d ≡ limit → IsReader limit (signal_lang d) (seq (read_word w.Signal) lock_tail)
+signal_reader limit r d h =
+    let hd : d ≤ limit = omega (arith, h) in
+    seq_reader limit _ _ (λ _ _. true) (read_word w.Signal) _ (word_reader limit d hd w.Signal)
+    (seq_reader limit _ _ (λ _ _. true) (read_sign s.OpenParen) _ (sign_reader limit d hd s.OpenParen)
+    (seq_reader limit _ _ (λ _ _. true) (read_sign s.Ampersand) _ (sign_reader limit d hd s.Ampersand)
+    (seq_reader limit _ _ (λ _ _. true) read_ident _ (ident_reader limit d hd)
+    (sign_reader limit d hd s.CloseParen)
+    (λ a b k g1 g2 e. (refl, refl)) no_spot refl)
+    (λ a b k g1 g2 e. (refl, refl)) (some_ident, no_spot) refl)
+    (λ a b k g1 g2 e. (refl, refl)) (no_spot, (some_ident, no_spot)) refl)
+    (λ a b k g1 g2 e. (refl, refl)) (no_spot, (no_spot, (some_ident, no_spot))) refl
+
+abbrev broadcast_lang : ℕ → Lang Token WakeParts
+broadcast_lang d = (pair (word_lang w.Broadcast d) (pair (sign_lang s.OpenParen d) (pair (sign_lang s.Ampersand d) (pair (ident_lang d) (sign_lang s.CloseParen d) (λ _ _. true)) (λ _ _. true)) (λ _ _. true)) (λ _ _. true))
+
+broadcast_reader : (limit r d : ℕ) → r + d ≡ limit → IsReader limit (broadcast_lang d) (seq (read_word w.Broadcast) lock_tail)
+broadcast_reader limit r d h =
+    let hd : d ≤ limit = omega (arith, h) in
+    seq_reader limit _ _ (λ _ _. true) (read_word w.Broadcast) _ (word_reader limit d hd w.Broadcast)
+    (seq_reader limit _ _ (λ _ _. true) (read_sign s.OpenParen) _ (sign_reader limit d hd s.OpenParen)
+    (seq_reader limit _ _ (λ _ _. true) (read_sign s.Ampersand) _ (sign_reader limit d hd s.Ampersand)
+    (seq_reader limit _ _ (λ _ _. true) read_ident _ (ident_reader limit d hd)
+    (sign_reader limit d hd s.CloseParen)
+    (λ a b k g1 g2 e. (refl, refl)) no_spot refl)
+    (λ a b k g1 g2 e. (refl, refl)) (some_ident, no_spot) refl)
+    (λ a b k g1 g2 e. (refl, refl)) (no_spot, (some_ident, no_spot)) refl)
+    (λ a b k g1 g2 e. (refl, refl)) (no_spot, (no_spot, (some_ident, no_spot))) refl
+
+abbrev library_parts : ℕ → Lang Token LibraryParts
+library_parts d = (choice (create_lang d) (choice (join_lang d) (choice (lock_lang d) (choice (unlock_lang d) (choice (print_lang d) (choice (scan_lang d) (choice (wait_lang d) (choice (signal_lang d) (broadcast_lang d)))))))))
+
+not_0 : (d : ℕ) (c : JoinParts ⊎ (LockParts ⊎ (LockParts ⊎ (PrintParts ⊎ (ScanParts ⊎ (WaitParts ⊎ (WakeParts ⊎ WakeParts))))))) (h : Option Token) → holds (is_word w.Create) (first (toks (choice (join_lang d) (choice (lock_lang d) (choice (unlock_lang d) (choice (print_lang d) (choice (scan_lang d) (choice (wait_lang d) (choice (signal_lang d) (broadcast_lang d)))))))) c) h) ≡ false
 not_0 d (inl x) h = refl
 not_0 d (inr (inl x)) h = refl
 not_0 d (inr (inr (inl x))) h = refl
 not_0 d (inr (inr (inr (inl x)))) h = refl
-not_0 d (inr (inr (inr (inr x)))) h = refl
+not_0 d (inr (inr (inr (inr (inl x))))) h = refl
+not_0 d (inr (inr (inr (inr (inr (inl x)))))) h = refl
+not_0 d (inr (inr (inr (inr (inr (inr (inl x))))))) h = refl
+not_0 d (inr (inr (inr (inr (inr (inr (inr x))))))) h = refl
 
-not_1 : (d : ℕ) (c : LockParts ⊎ (LockParts ⊎ (PrintParts ⊎ ScanParts))) (h : Option Token) → holds (is_word w.Join) (first (toks (choice (lock_lang d) (choice (unlock_lang d) (choice (print_lang d) (scan_lang d)))) c) h) ≡ false
+not_1 : (d : ℕ) (c : LockParts ⊎ (LockParts ⊎ (PrintParts ⊎ (ScanParts ⊎ (WaitParts ⊎ (WakeParts ⊎ WakeParts)))))) (h : Option Token) → holds (is_word w.Join) (first (toks (choice (lock_lang d) (choice (unlock_lang d) (choice (print_lang d) (choice (scan_lang d) (choice (wait_lang d) (choice (signal_lang d) (broadcast_lang d))))))) c) h) ≡ false
 not_1 d (inl x) h = refl
 not_1 d (inr (inl x)) h = refl
 not_1 d (inr (inr (inl x))) h = refl
-not_1 d (inr (inr (inr x))) h = refl
+not_1 d (inr (inr (inr (inl x)))) h = refl
+not_1 d (inr (inr (inr (inr (inl x))))) h = refl
+not_1 d (inr (inr (inr (inr (inr (inl x)))))) h = refl
+not_1 d (inr (inr (inr (inr (inr (inr x)))))) h = refl
 
-not_2 : (d : ℕ) (c : LockParts ⊎ (PrintParts ⊎ ScanParts)) (h : Option Token) → holds (is_word w.Lock) (first (toks (choice (unlock_lang d) (choice (print_lang d) (scan_lang d))) c) h) ≡ false
+not_2 : (d : ℕ) (c : LockParts ⊎ (PrintParts ⊎ (ScanParts ⊎ (WaitParts ⊎ (WakeParts ⊎ WakeParts))))) (h : Option Token) → holds (is_word w.Lock) (first (toks (choice (unlock_lang d) (choice (print_lang d) (choice (scan_lang d) (choice (wait_lang d) (choice (signal_lang d) (broadcast_lang d)))))) c) h) ≡ false
 not_2 d (inl x) h = refl
 not_2 d (inr (inl x)) h = refl
-not_2 d (inr (inr x)) h = refl
+not_2 d (inr (inr (inl x))) h = refl
+not_2 d (inr (inr (inr (inl x)))) h = refl
+not_2 d (inr (inr (inr (inr (inl x))))) h = refl
+not_2 d (inr (inr (inr (inr (inr x))))) h = refl
 
-not_3 : (d : ℕ) (c : PrintParts ⊎ ScanParts) (h : Option Token) → holds (is_word w.Unlock) (first (toks (choice (print_lang d) (scan_lang d)) c) h) ≡ false
+not_3 : (d : ℕ) (c : PrintParts ⊎ (ScanParts ⊎ (WaitParts ⊎ (WakeParts ⊎ WakeParts)))) (h : Option Token) → holds (is_word w.Unlock) (first (toks (choice (print_lang d) (choice (scan_lang d) (choice (wait_lang d) (choice (signal_lang d) (broadcast_lang d))))) c) h) ≡ false
 not_3 d (inl x) h = refl
-not_3 d (inr x) h = refl
+not_3 d (inr (inl x)) h = refl
+not_3 d (inr (inr (inl x))) h = refl
+not_3 d (inr (inr (inr (inl x)))) h = refl
+not_3 d (inr (inr (inr (inr x)))) h = refl
 
-not_4 : (d : ℕ) (c : ScanParts) (h : Option Token) → holds (is_word w.Printf) (first (toks (scan_lang d) c) h) ≡ false
-not_4 d x h = refl
+not_4 : (d : ℕ) (c : ScanParts ⊎ (WaitParts ⊎ (WakeParts ⊎ WakeParts))) (h : Option Token) → holds (is_word w.Printf) (first (toks (choice (scan_lang d) (choice (wait_lang d) (choice (signal_lang d) (broadcast_lang d)))) c) h) ≡ false
+not_4 d (inl x) h = refl
+not_4 d (inr (inl x)) h = refl
+not_4 d (inr (inr (inl x))) h = refl
+not_4 d (inr (inr (inr x))) h = refl
+
+not_5 : (d : ℕ) (c : WaitParts ⊎ (WakeParts ⊎ WakeParts)) (h : Option Token) → holds (is_word w.Scanf) (first (toks (choice (wait_lang d) (choice (signal_lang d) (broadcast_lang d))) c) h) ≡ false
+not_5 d (inl x) h = refl
+not_5 d (inr (inl x)) h = refl
+not_5 d (inr (inr x)) h = refl
+
+not_6 : (d : ℕ) (c : WakeParts ⊎ WakeParts) (h : Option Token) → holds (is_word w.CondWait) (first (toks (choice (signal_lang d) (broadcast_lang d)) c) h) ≡ false
+not_6 d (inl x) h = refl
+not_6 d (inr x) h = refl
+
+not_7 : (d : ℕ) (c : WakeParts) (h : Option Token) → holds (is_word w.Signal) (first (toks (broadcast_lang d) c) h) ≡ false
+not_7 d x h = refl
 
 abbrev library_to : Library → LibraryParts
 library_to (Create a b c d e f g h i j k) = inl (a, (b, (c, (d, (e, (f, (g, (h, (i, (j, k))))))))))
@@ -336,7 +417,10 @@ library_to (Join a b c d e f) = inr (inl (a, (b, (c, (d, (e, f))))))
 library_to (Lock a b c d e) = inr (inr (inl (a, (b, (c, (d, e))))))
 library_to (Unlock a b c d e) = inr (inr (inr (inl (a, (b, (c, (d, e)))))))
 library_to (Print a b c d e) = inr (inr (inr (inr (inl (a, (b, (c, (d, e))))))))
-library_to (Scan a b c d e f g) = inr (inr (inr (inr (inr (a, (b, (c, (d, (e, (f, g))))))))))
+library_to (Scan a b c d e f g) = inr (inr (inr (inr (inr (inl (a, (b, (c, (d, (e, (f, g)))))))))))
+library_to (Wait a b c d e f g h) = inr (inr (inr (inr (inr (inr (inl (a, (b, (c, (d, (e, (f, (g, h)))))))))))))
+library_to (Signal a b c d e) = inr (inr (inr (inr (inr (inr (inr (inl (a, (b, (c, (d, e)))))))))))
+library_to (Broadcast a b c d e) = inr (inr (inr (inr (inr (inr (inr (inr (a, (b, (c, (d, e)))))))))))
 
 library_back : (x : Library) → library_from (library_to x) ≡ x
 library_back (Create a b c d e f g h i j k) = refl
@@ -345,6 +429,9 @@ library_back (Lock a b c d e) = refl
 library_back (Unlock a b c d e) = refl
 library_back (Print a b c d e) = refl
 library_back (Scan a b c d e f g) = refl
+library_back (Wait a b c d e f g h) = refl
+library_back (Signal a b c d e) = refl
+library_back (Broadcast a b c d e) = refl
 
 library_marks_is : (d : ℕ) (x : LibraryParts) → library_marks d (library_from x) ≡ (library_parts d).marks x
 library_marks_is d (inl x) = refl
@@ -352,7 +439,10 @@ library_marks_is d (inr (inl x)) = refl
 library_marks_is d (inr (inr (inl x))) = refl
 library_marks_is d (inr (inr (inr (inl x)))) = refl
 library_marks_is d (inr (inr (inr (inr (inl x))))) = refl
-library_marks_is d (inr (inr (inr (inr (inr x))))) = refl
+library_marks_is d (inr (inr (inr (inr (inr (inl x)))))) = refl
+library_marks_is d (inr (inr (inr (inr (inr (inr (inl x))))))) = refl
+library_marks_is d (inr (inr (inr (inr (inr (inr (inr (inl x)))))))) = refl
+library_marks_is d (inr (inr (inr (inr (inr (inr (inr (inr x)))))))) = refl
 
 library_good_is : (d : ℕ) (x : LibraryParts) → is_library (library_from x) ≡ (library_parts d).good x
 library_good_is d (inl x) = ap (λ (v : Bool). is_target x.1.1.1.0 && v) (sym (and_true _))
@@ -360,7 +450,10 @@ library_good_is d (inr (inl x)) = sym (and_true _)
 library_good_is d (inr (inr (inl x))) = refl
 library_good_is d (inr (inr (inr (inl x)))) = refl
 library_good_is d (inr (inr (inr (inr (inl x))))) = exprs_good d ends_list x.1.1.1.0 ∙ sym (and_true _)
-library_good_is d (inr (inr (inr (inr (inr x))))) = sym (and_true _)
+library_good_is d (inr (inr (inr (inr (inr (inl x)))))) = sym (and_true _)
+library_good_is d (inr (inr (inr (inr (inr (inr (inl x))))))) = refl
+library_good_is d (inr (inr (inr (inr (inr (inr (inr (inl x)))))))) = refl
+library_good_is d (inr (inr (inr (inr (inr (inr (inr (inr x)))))))) = refl
 
 abbrev pub library_lang : ℕ → Lang Token Library
 library_lang d = record { marks = library_marks d; good = is_library; stops = λ _ _. true }
@@ -372,6 +465,9 @@ library_stops d (Lock a b c e f) h = refl
 library_stops d (Unlock a b c e f) h = refl
 library_stops d (Print a b c e f) h = refl
 library_stops d (Scan a b c e f g i) h = refl
+library_stops d (Wait a b c e f g i j) h = refl
+library_stops d (Signal a b c e f) h = refl
+library_stops d (Broadcast a b c e f) h = refl
 
 pub library_reader : (limit r d : ℕ) → r + d ≡ limit → IsReader limit (library_lang d) (library_at limit r)
 unfolding library_at
@@ -383,14 +479,20 @@ library_reader limit r d h = map_reader limit (library_parts d) (library_lang d)
       good = λ x g. library_good_is d x ∙ g;
       stops = λ x k g e. library_stops d x k;
     }) _
-    (choice_reader limit (is_word w.Create) (create_lang d) (choice (join_lang d) (choice (lock_lang d) (choice (unlock_lang d) (choice (print_lang d) (scan_lang d))))) _ _ (λ a k g. refl) (λ c k g e. not_0 d c k)
+    (choice_reader limit (is_word w.Create) (create_lang d) (choice (join_lang d) (choice (lock_lang d) (choice (unlock_lang d) (choice (print_lang d) (choice (scan_lang d) (choice (wait_lang d) (choice (signal_lang d) (broadcast_lang d)))))))) _ _ (λ a k g. refl) (λ c k g e. not_0 d c k)
     (create_reader limit r d h)
-    (choice_reader limit (is_word w.Join) (join_lang d) (choice (lock_lang d) (choice (unlock_lang d) (choice (print_lang d) (scan_lang d)))) _ _ (λ a k g. refl) (λ c k g e. not_1 d c k)
+    (choice_reader limit (is_word w.Join) (join_lang d) (choice (lock_lang d) (choice (unlock_lang d) (choice (print_lang d) (choice (scan_lang d) (choice (wait_lang d) (choice (signal_lang d) (broadcast_lang d))))))) _ _ (λ a k g. refl) (λ c k g e. not_1 d c k)
     (join_reader limit r d h)
-    (choice_reader limit (is_word w.Lock) (lock_lang d) (choice (unlock_lang d) (choice (print_lang d) (scan_lang d))) _ _ (λ a k g. refl) (λ c k g e. not_2 d c k)
+    (choice_reader limit (is_word w.Lock) (lock_lang d) (choice (unlock_lang d) (choice (print_lang d) (choice (scan_lang d) (choice (wait_lang d) (choice (signal_lang d) (broadcast_lang d)))))) _ _ (λ a k g. refl) (λ c k g e. not_2 d c k)
     (lock_reader limit r d h)
-    (choice_reader limit (is_word w.Unlock) (unlock_lang d) (choice (print_lang d) (scan_lang d)) _ _ (λ a k g. refl) (λ c k g e. not_3 d c k)
+    (choice_reader limit (is_word w.Unlock) (unlock_lang d) (choice (print_lang d) (choice (scan_lang d) (choice (wait_lang d) (choice (signal_lang d) (broadcast_lang d))))) _ _ (λ a k g. refl) (λ c k g e. not_3 d c k)
     (unlock_reader limit r d h)
-    (choice_reader limit (is_word w.Printf) (print_lang d) (scan_lang d) _ _ (λ a k g. refl) (λ c k g e. not_4 d c k)
+    (choice_reader limit (is_word w.Printf) (print_lang d) (choice (scan_lang d) (choice (wait_lang d) (choice (signal_lang d) (broadcast_lang d)))) _ _ (λ a k g. refl) (λ c k g e. not_4 d c k)
     (print_reader limit r d h)
-    (scan_reader limit r d h))))))
+    (choice_reader limit (is_word w.Scanf) (scan_lang d) (choice (wait_lang d) (choice (signal_lang d) (broadcast_lang d))) _ _ (λ a k g. refl) (λ c k g e. not_5 d c k)
+    (scan_reader limit r d h)
+    (choice_reader limit (is_word w.CondWait) (wait_lang d) (choice (signal_lang d) (broadcast_lang d)) _ _ (λ a k g. refl) (λ c k g e. not_6 d c k)
+    (wait_reader limit r d h)
+    (choice_reader limit (is_word w.Signal) (signal_lang d) (broadcast_lang d) _ _ (λ a k g. refl) (λ c k g e. not_7 d c k)
+    (signal_reader limit r d h)
+    (broadcast_reader limit r d h)))))))))

@@ -5,7 +5,7 @@ use Rattle.cfix_base.specs.declared.Spot.{Spot}
 use Rattle.c_grammar.specs.Reader.{first, tokens, Lang, toks, one_of, seq, holds, alt, maybe, maybe_read}
 use Rattle.c_grammar.specs.Token.{Token, Ident}
 use Rattle.c_grammar.specs.Expr.{is_expr}
-use Rattle.c_grammar.specs.Simple.{Place, is_place, Target, TargetOf, CallOf, is_call, Value, Computed, Called, Step, Up, SetTo, Changed, SteppedAfter, SteppedBefore, Library, Create, Join, Lock, Unlock, Print, Scan, library_marks, Simple, PlainPart, SetCall, OnlyCall, LibraryPart, is_simple, simple_marks}
+use Rattle.c_grammar.specs.Simple.{Place, is_place, Target, TargetOf, CallOf, is_call, Value, Computed, Called, Step, Up, SetTo, Changed, SteppedAfter, SteppedBefore, Library, Create, Join, Lock, Unlock, Print, Scan, Wait, Signal, Broadcast, library_marks, Simple, PlainPart, SetCall, OnlyCall, LibraryPart, is_simple, simple_marks}
 use Rattle.c_grammar.specs.Read.{is_name, read_ident}
 use Rattle.c_grammar.specs.ReadExpr.{index_at}
 use Rattle.c_grammar.specs.ReadSimple.{is_bracket, is_paren, is_step, step_of, target_at, call_tail_at, value_at, Assigns, assigns_with, library_at, SimpleTail, SimpleParts, simple_from, simple_at}
@@ -55,6 +55,9 @@ library_no_step d (Lock a b c e f) h = refl
 library_no_step d (Unlock a b c e f) h = refl
 library_no_step d (Print a b c e f) h = refl
 library_no_step d (Scan a b c e f g i) h = refl
+library_no_step d (Wait a b c e f g i j) h = refl
+library_no_step d (Signal a b c e f) h = refl
+library_no_step d (Broadcast a b c e f) h = refl
 
 other_no_name : (d : ℕ) (x : ((Step × Spot) × Target) ⊎ Library) (h : Option Token) → holds is_name (first (toks (choice (before_lang d) (library_lang d)) x) h) ≡ false
 other_no_name d (inl x) h = refl
@@ -64,6 +67,9 @@ other_no_name d (inr (Lock a b c e f)) h = refl
 other_no_name d (inr (Unlock a b c e f)) h = refl
 other_no_name d (inr (Print a b c e f)) h = refl
 other_no_name d (inr (Scan a b c e f g i)) h = refl
+other_no_name d (inr (Wait a b c e f g i j)) h = refl
+other_no_name d (inr (Signal a b c e f)) h = refl
+other_no_name d (inr (Broadcast a b c e f)) h = refl
 
 parts_reader : (limit r d : ℕ) → r + d ≡ limit → IsReader limit (simple_parts d) (alt is_name (seq read_ident (alt is_paren (call_tail_at limit r) (seq (maybe_read is_bracket (index_at r limit)) (assigns_with limit r (value_at limit r)))))
     (alt is_step (seq (one_of step_of) (target_at limit r)) (library_at limit r)))

@@ -7,7 +7,7 @@ use Rattle.c_grammar.specs.declared.sign.Sign.TheVariants as s
 use Rattle.c_grammar.specs.Reader.{Out, first, tokens, Lang, toks, seq, holds}
 use Rattle.c_grammar.specs.Token.{Kind, IsName, IsWord, IsSign, Token, sign, word, Mark}
 use Rattle.c_grammar.specs.Op.{ops_marks}
-use Rattle.c_grammar.specs.Simple.{TargetOf, CallOf, SetTo, Changed, SteppedAfter, SteppedBefore, Step, Up, Down, step_sign, Create, Join, Lock, Unlock, Print, Scan, Simple, PlainPart, SetCall, OnlyCall, LibraryPart, simple_marks, is_simple, is_value}
+use Rattle.c_grammar.specs.Simple.{TargetOf, CallOf, SetTo, Changed, SteppedAfter, SteppedBefore, Step, Up, Down, step_sign, Create, Join, Lock, Unlock, Print, Scan, Wait, Signal, Broadcast, Simple, PlainPart, SetCall, OnlyCall, LibraryPart, simple_marks, is_simple, is_value}
 use Rattle.c_grammar.specs.Decl.{Ints, Holds, is_local_int}
 use Rattle.c_grammar.specs.Stmt.{Break, Continue, Return, ReturnNull, BareJump, ReturnValue, BareBlock, ValueBlock, Stmt, Block, Nothing, Simply, Jumps, If, While, For, Else, NoElse, ElseDo, NoItems, AndItem, Declares, Does, is_open, is_open_else, has_else, is_stmt, are_items, stmt_marks}
 use Rattle.c_grammar.specs.Read.{is_word, is_word_kind, is_sign, is_sign_kind}
@@ -95,6 +95,9 @@ begins_simple_kind (IsWord w.Create) = true
 begins_simple_kind (IsWord w.Join) = true
 begins_simple_kind (IsWord w.Lock) = true
 begins_simple_kind (IsWord w.Unlock) = true
+begins_simple_kind (IsWord w.CondWait) = true
+begins_simple_kind (IsWord w.Signal) = true
+begins_simple_kind (IsWord w.Broadcast) = true
 begins_simple_kind _ = false
 
 abbrev begins_simple : Token → Bool
@@ -117,6 +120,9 @@ simple_begins d (LibraryPart (Lock a b c e f)) more h = refl
 simple_begins d (LibraryPart (Unlock a b c e f)) more h = refl
 simple_begins d (LibraryPart (Print a b c e f)) more h = refl
 simple_begins d (LibraryPart (Scan a b c e f g i)) more h = refl
+simple_begins d (LibraryPart (Wait a b c e f g i j)) more h = refl
+simple_begins d (LibraryPart (Signal a b c e f)) more h = refl
+simple_begins d (LibraryPart (Broadcast a b c e f)) more h = refl
 
 jump_begins : (d : ℕ) (x : JumpParts) (h : Option Token) → holds begins_jump (first (toks (jump_parts d) x) h) ≡ true
 jump_begins d (inl x) h = refl

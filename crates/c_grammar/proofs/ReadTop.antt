@@ -6,13 +6,13 @@ use Rattle.c_grammar.specs.declared.word.Word.TheVariants as w
 use Rattle.c_grammar.specs.declared.sign.Sign.TheVariants as s
 use Rattle.c_grammar.specs.Reader.{first, Lang, toks, seq, seq_dep, holds, alt, maybe_read}
 use Rattle.c_grammar.specs.Token.{Token, Ident}
-use Rattle.c_grammar.specs.Decl.{Size, Count, Named, OneThread, GlobalInt, OneGlobal, SetGlobal, GlobalArray, global_int_marks, GlobalMutex, OneMutex, SetMutex, global_mutex_marks}
+use Rattle.c_grammar.specs.Decl.{Size, Count, Named, OneThread, GlobalInt, OneGlobal, SetGlobal, GlobalArray, global_int_marks, GlobalMutex, OneMutex, SetMutex, global_mutex_marks, GlobalCond, OneCond, SetCond, global_cond_marks}
 use Rattle.c_grammar.specs.File.{NoParams}
 use Rattle.c_grammar.specs.Read.{is_word, is_sign, is_name, read_word, read_sign, read_ident, commas}
 use Rattle.c_grammar.specs.ReadSimple.{is_paren}
-use Rattle.c_grammar.specs.ReadDecl.{is_assign, Declared, global_int_from, read_global_tail, read_global_int, global_mutex_from, read_global_mutex, read_size}
+use Rattle.c_grammar.specs.ReadDecl.{is_assign, Declared, global_int_from, read_global_tail, read_global_int, global_mutex_from, read_global_mutex, global_cond_from, read_global_cond, read_size}
 use Rattle.c_grammar.specs.ReadStmt.{read_semicolon}
-use Rattle.c_grammar.specs.ReadFile.{read_directive, Qualifiers, read_qualifiers, heads_allowed, head_end_at, HeadTail, head_tail_at, GlobalTail, read_globals_tail, int_tail_at, IntParts, HoldParts, MutexParts, ThreadHeadParts, VoidParts, Body, thread_head_at, void_at, read_mutexes, read_holds, last_at, body_at, TopParts}
+use Rattle.c_grammar.specs.ReadFile.{read_directive, Qualifiers, read_qualifiers, heads_allowed, head_end_at, HeadTail, head_tail_at, GlobalTail, read_globals_tail, int_tail_at, IntParts, HoldParts, MutexParts, CondParts, ThreadHeadParts, VoidParts, Body, thread_head_at, void_at, read_mutexes, read_conds, read_holds, last_at, body_at, TopParts}
 use Rattle.c_grammar.proofs.Reader.{IsReader, pair, pair_dep, seq_reader, dep_reader, same_all, map_reader, optional, maybe_reader, choice, choice_reader, sum, alt_reader}
 use Rattle.c_grammar.proofs.Token.{no_spot, word_lang, sign_lang, ident_lang, word_reader, sign_reader, ident_reader}
 use Rattle.c_grammar.proofs.Commas.{commas_lang, listed_lang, commas_reader, listed_reader}
@@ -152,7 +152,7 @@ ints_reader limit heads = seq_reader limit (word_lang w.Int 0) (pair (ident_lang
     (seq_reader limit (ident_lang 0) (int_tail_lang heads) (λ _ _. true) read_ident _ (ident_reader limit 0 (omega arith)) (int_tail_reader limit heads) (λ a b h g1 g2 e. (refl, refl)) (inr (inr None, ([], no_spot))) refl)
     (λ a b h g1 g2 e. (refl, refl)) (some_ident, inr (inr None, ([], no_spot))) refl
 
--- ---- threads and mutexes
+-- ---- threads, mutexes and condition variables
 
 abbrev pub hold_parts_lang : Lang Token HoldParts
 hold_parts_lang = pair (holds_lang 0) (sign_lang s.Semicolon 0) (λ _ _. true)
@@ -212,6 +212,55 @@ more_mutexes_good (x ∷ xs) = more_mutexes_good xs
 pub mutexes_good : (x : MutexParts) → mutexes_lang.good x ≡ true
 mutexes_good x = and_from _ _ (more_mutexes_good x.0.1.1) refl
 
+abbrev initial_lang : Lang Token (Spot × Spot)
+initial_lang = set_lang 0 (word_lang w.CondInitializer 0)
+
+abbrev cond_lang : Lang Token GlobalCond
+cond_lang = record { marks = global_cond_marks 0; good = λ _. true; stops = λ _ h. no_assign h }
+
+abbrev cond_parts : Lang Token (Ident × Option (Spot × Spot))
+cond_parts = pair (ident_lang 0) (optional initial_lang no_assign) (λ _ h. no_assign h)
+
+abbrev cond_to : GlobalCond → Ident × Option (Spot × Spot)
+cond_to (OneCond x) = (x, None)
+cond_to (SetCond x at value) = (x, Some (at, value))
+
+cond_back : (x : GlobalCond) → global_cond_from (cond_to x) ≡ x
+cond_back (OneCond x) = refl
+cond_back (SetCond x at value) = refl
+
+cond_marks_is : (x : Ident × Option (Spot × Spot)) → global_cond_marks 0 (global_cond_from x) ≡ cond_parts.marks x
+cond_marks_is (x, None) = refl
+cond_marks_is (x, Some v) = refl
+
+cond_good_is : (x : Ident × Option (Spot × Spot)) → true ≡ cond_parts.good x
+cond_good_is (x, None) = refl
+cond_good_is (x, Some v) = refl
+
+cond_reader : (limit : ℕ) → IsReader limit cond_lang read_global_cond
+cond_reader limit = map_reader limit cond_parts cond_lang global_cond_from cond_to (same_all cond_parts cond_lang global_cond_from cond_to cond_back cond_marks_is cond_good_is (λ x h e. e)) _
+    (seq_reader limit (ident_lang 0) (optional initial_lang no_assign) (λ _ h. no_assign h) read_ident _ (ident_reader limit 0 (omega arith))
+    (maybe_reader limit is_assign initial_lang no_assign _ (set_reader 0 (word_lang w.CondInitializer 0) limit (omega arith) (read_word w.CondInitializer) (word_reader limit 0 (omega arith) w.CondInitializer) no_spot refl) (λ a h g. refl) (λ h e. not_true _ e) (λ a h g e. refl)) (λ a b h g1 g2 e. (refl, e)) None refl)
+
+abbrev ends_conds : Option Token → Bool
+ends_conds h = no_assign h && not (holds (is_sign s.Comma) h)
+
+abbrev pub conds_lang : Lang Token CondParts
+conds_lang = pair (pair (word_lang w.Cond 0) (listed_lang 0 cond_lang ends_conds) (λ _ h. ends_conds h)) (sign_lang s.Semicolon 0) (λ _ _. true)
+
+conds_reader : (limit : ℕ) → IsReader limit conds_lang read_conds
+conds_reader limit = seq_reader limit _ (sign_lang s.Semicolon 0) (λ _ _. true) _ read_semicolon
+    (seq_reader limit (word_lang w.Cond 0) (listed_lang 0 cond_lang ends_conds) (λ _ h. ends_conds h) (read_word w.Cond) _ (word_reader limit 0 (omega arith) w.Cond)
+    (listed_reader 0 cond_lang ends_conds limit (omega arith) read_global_cond (cond_reader limit) (OneCond some_ident) refl (λ a at g. refl) (λ a h g e. (and_parts _ _ e).0) (λ h e. not_true _ (and_parts _ _ e).1)) (λ a b h g1 g2 e. (refl, e)) (OneCond some_ident, []) refl)
+    (sign_reader limit 0 (omega arith) s.Semicolon) (λ a b h g1 g2 e. (refl, refl)) no_spot refl
+
+more_conds_good : (xs : List (Spot × GlobalCond)) → (commas_lang 0 cond_lang ends_conds).good xs ≡ true
+more_conds_good [] = refl
+more_conds_good (x ∷ xs) = more_conds_good xs
+
+pub conds_good : (x : CondParts) → conds_lang.good x ≡ true
+conds_good x = and_from _ _ (more_conds_good x.0.1.1) refl
+
 -- ---- heads that begin with `void`
 
 abbrev pub thread_head_lang : Lang Token ThreadHeadParts
@@ -251,55 +300,67 @@ void_reader limit = seq_reader limit (word_lang w.Void 0) (choice thread_head_la
 
 -- ---- behind the qualifiers
 
-abbrev last_lang : Bool → Lang Token (MutexParts ⊎ VoidParts)
+abbrev last_lang : Bool → Lang Token (VoidParts ⊎ CondParts)
 last_lang heads = record {
-  marks = λ x. elim x [ inl m ↦ mutexes_lang.marks m | inr v ↦ void_lang.marks v ];
-  good = λ x. elim x [ inl m ↦ mutexes_lang.good m | inr v ↦ heads && void_lang.good v ];
+  marks = λ x. elim x [ inl v ↦ void_lang.marks v | inr c ↦ conds_lang.marks c ];
+  good = λ x. elim x [ inl v ↦ heads && void_lang.good v | inr c ↦ conds_lang.good c ];
   stops = λ x h. true;
 }
 
-abbrev mutexes_of : MutexParts ⊎ VoidParts → MutexParts
-mutexes_of (inl m) = m
-mutexes_of (inr v) = ((no_spot, (OneMutex some_ident, [])), no_spot)
+abbrev conds_of : VoidParts ⊎ CondParts → CondParts
+conds_of (inl v) = ((no_spot, (OneCond some_ident, [])), no_spot)
+conds_of (inr c) = c
 
 last_reader : (limit : ℕ) (heads : Bool) → IsReader limit (last_lang heads) (last_at heads limit)
-last_reader limit true = alt_reader limit (is_word w.Mutex) mutexes_lang void_lang (λ _ _. true) read_mutexes (void_at limit)
-    (record { one = λ a h g. refl; other = λ c h g e. refl; stops_one = λ a h g e. refl; stops_other = λ c h g e. refl }) (mutexes_reader limit) (void_reader limit)
-last_reader limit false = map_reader limit mutexes_lang (last_lang false) inl mutexes_of
+last_reader limit true = alt_reader limit (is_word w.Void) void_lang conds_lang (λ _ _. true) (void_at limit) read_conds
+    (record { one = λ a h g. refl; other = λ c h g e. refl; stops_one = λ a h g e. refl; stops_other = λ c h g e. refl }) (void_reader limit) (conds_reader limit)
+last_reader limit false = map_reader limit conds_lang (last_lang false) inr conds_of
     (record {
-      back = elim [ inl m ↦ λ g. refl | inr v ↦ λ g. absurd cc ];
-      good_back = elim [ inl m ↦ λ g. g | inr v ↦ λ g. absurd cc ];
+      back = elim [ inl v ↦ λ g. absurd cc | inr c ↦ λ g. refl ];
+      good_back = elim [ inl v ↦ λ g. absurd cc | inr c ↦ λ g. g ];
       marks = λ t g. refl;
       good = λ t g. g;
       stops = λ t h g e. refl;
-    }) _ (mutexes_reader limit)
+    }) _ (conds_reader limit)
 
-abbrev body_rest : Bool → Lang Token (HoldParts ⊎ (MutexParts ⊎ VoidParts))
-body_rest heads = sum hold_parts_lang (last_lang heads) (λ _ _. true)
+abbrev mutex_rest : Bool → Lang Token (MutexParts ⊎ (VoidParts ⊎ CondParts))
+mutex_rest heads = sum mutexes_lang (last_lang heads) (λ _ _. true)
+
+abbrev body_rest : Bool → Lang Token (HoldParts ⊎ (MutexParts ⊎ (VoidParts ⊎ CondParts)))
+body_rest heads = sum hold_parts_lang (mutex_rest heads) (λ _ _. true)
 
 abbrev body_lang : Bool → Lang Token Body
 body_lang heads = sum (ints_lang heads) (body_rest heads) (λ _ _. true)
 
-rest_no_int : (heads : Bool) (c : HoldParts ⊎ (MutexParts ⊎ VoidParts)) (h : Option Token) → holds (is_word w.Int) (first (toks (body_rest heads) c) h) ≡ false
+rest_no_int : (heads : Bool) (c : HoldParts ⊎ (MutexParts ⊎ (VoidParts ⊎ CondParts))) (h : Option Token) → holds (is_word w.Int) (first (toks (body_rest heads) c) h) ≡ false
 rest_no_int heads (inl x) h = refl
 rest_no_int heads (inr (inl m)) h = refl
-rest_no_int heads (inr (inr v)) h = refl
+rest_no_int heads (inr (inr (inl v))) h = refl
+rest_no_int heads (inr (inr (inr c))) h = refl
 
-last_no_thread : (heads : Bool) (c : MutexParts ⊎ VoidParts) (h : Option Token) → holds (is_word w.Thread) (first (toks (last_lang heads) c) h) ≡ false
-last_no_thread heads (inl m) h = refl
-last_no_thread heads (inr v) h = refl
+rest_no_thread : (heads : Bool) (c : MutexParts ⊎ (VoidParts ⊎ CondParts)) (h : Option Token) → holds (is_word w.Thread) (first (toks (mutex_rest heads) c) h) ≡ false
+rest_no_thread heads (inl m) h = refl
+rest_no_thread heads (inr (inl v)) h = refl
+rest_no_thread heads (inr (inr c)) h = refl
+
+last_no_mutex : (heads : Bool) (c : VoidParts ⊎ CondParts) (h : Option Token) → holds (is_word w.Mutex) (first (toks (last_lang heads) c) h) ≡ false
+last_no_mutex heads (inl v) h = refl
+last_no_mutex heads (inr c) h = refl
 
 body_reader : (limit : ℕ) (heads : Bool) → IsReader limit (body_lang heads) (body_at heads limit)
 body_reader limit heads = alt_reader limit (is_word w.Int) (ints_lang heads) (body_rest heads) (λ _ _. true) _ _
     (record { one = λ a h g. refl; other = λ c h g e. rest_no_int heads c h; stops_one = λ a h g e. refl; stops_other = λ c h g e. refl }) (ints_reader limit heads)
-    (alt_reader limit (is_word w.Thread) hold_parts_lang (last_lang heads) (λ _ _. true) read_holds (last_at heads limit)
-    (record { one = λ a h g. refl; other = λ c h g e. last_no_thread heads c h; stops_one = λ a h g e. refl; stops_other = λ c h g e. refl }) (hold_parts_reader limit) (last_reader limit heads))
+    (alt_reader limit (is_word w.Thread) hold_parts_lang (mutex_rest heads) (λ _ _. true) read_holds _
+    (record { one = λ a h g. refl; other = λ c h g e. rest_no_thread heads c h; stops_one = λ a h g e. refl; stops_other = λ c h g e. refl }) (hold_parts_reader limit)
+    (alt_reader limit (is_word w.Mutex) mutexes_lang (last_lang heads) (λ _ _. true) read_mutexes (last_at heads limit)
+    (record { one = λ a h g. refl; other = λ c h g e. last_no_mutex heads c h; stops_one = λ a h g e. refl; stops_other = λ c h g e. refl }) (mutexes_reader limit) (last_reader limit heads)))
 
 body_no_qualifier : (heads : Bool) (x : Body) (h : Option Token) → no_qualifier (first (toks (body_lang heads) x) h) ≡ true
 body_no_qualifier heads (inl x) h = refl
 body_no_qualifier heads (inr (inl x)) h = refl
 body_no_qualifier heads (inr (inr (inl m))) h = refl
-body_no_qualifier heads (inr (inr (inr v))) h = refl
+body_no_qualifier heads (inr (inr (inr (inl v)))) h = refl
+body_no_qualifier heads (inr (inr (inr (inr c)))) h = refl
 
 abbrev pub declared_lang_of : Lang Token (Qualifiers × Body)
 declared_lang_of = pair_dep qualifiers_lang (λ q. body_lang (heads_allowed q)) (λ _ _. true)
@@ -315,7 +376,8 @@ body_no_hash : (heads : Bool) (x : Body) (h : Option Token) → holds (is_sign s
 body_no_hash heads (inl x) h = refl
 body_no_hash heads (inr (inl x)) h = refl
 body_no_hash heads (inr (inr (inl m))) h = refl
-body_no_hash heads (inr (inr (inr v))) h = refl
+body_no_hash heads (inr (inr (inr (inl v)))) h = refl
+body_no_hash heads (inr (inr (inr (inr c)))) h = refl
 
 declared_no_hash : (x : Qualifiers × Body) (h : Option Token) → holds (is_sign s.Hash) (first (toks declared_lang_of x) h) ≡ false
 declared_no_hash ([], x) h = body_no_hash true x h

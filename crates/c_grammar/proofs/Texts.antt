@@ -520,6 +520,42 @@ text115 : read 3 (codes "int x int y ; int f ( void ) { x = ( ( ( ( 1 ) ) ) ) ; 
 unfolding read main read_file stmt_at cond_at inner_at loop_int_at decl_at local_at simple_at library_at thread_arg_at plain_at value_at paren_at index_at prefix_at expr_at unary_at
 text115 = refl
 
+text116 : read 3 (codes "pthread_cond_t c = PTHREAD_COND_INITIALIZER , d ; static pthread_cond_t e ; volatile static pthread_cond_t f ;" ∷ []) ≡ None
+unfolding read main read_file stmt_at cond_at inner_at loop_int_at decl_at local_at simple_at library_at thread_arg_at plain_at value_at paren_at index_at prefix_at expr_at unary_at
+text116 = refl
+
+text117 : read 3 (codes "pthread_cond_t c = PTHREAD_MUTEX_INITIALIZER ;" ∷ []) ≡ Some (Unexpected, 2)
+unfolding read main read_file stmt_at cond_at inner_at loop_int_at decl_at local_at simple_at library_at thread_arg_at plain_at value_at paren_at index_at prefix_at expr_at unary_at
+text117 = refl
+
+text118 : read 3 (codes "pthread_cond_t c [ 2 ] ;" ∷ []) ≡ Some (Unexpected, 4)
+unfolding read main read_file stmt_at cond_at inner_at loop_int_at decl_at local_at simple_at library_at thread_arg_at plain_at value_at paren_at index_at prefix_at expr_at unary_at
+text118 = refl
+
+text119 : read 3 (codes "volatile pthread_cond_t c ; volatile void f ( void ) ;" ∷ []) ≡ Some (Unexpected, 6)
+unfolding read main read_file stmt_at cond_at inner_at loop_int_at decl_at local_at simple_at library_at thread_arg_at plain_at value_at paren_at index_at prefix_at expr_at unary_at
+text119 = refl
+
+text120 : read 3 (main (codes "pthread_cond_wait ( & c , & m ) ; pthread_cond_signal ( & c ) ; pthread_cond_broadcast ( & c ) ;")) ≡ None
+unfolding read main read_file stmt_at cond_at inner_at loop_int_at decl_at local_at simple_at library_at thread_arg_at plain_at value_at paren_at index_at prefix_at expr_at unary_at
+text120 = refl
+
+text121 : read 3 (main (codes "pthread_cond_wait ( & c ) ;")) ≡ Some (Unexpected, 3)
+unfolding read main read_file stmt_at cond_at inner_at loop_int_at decl_at local_at simple_at library_at thread_arg_at plain_at value_at paren_at index_at prefix_at expr_at unary_at
+text121 = refl
+
+text122 : read 3 (main (codes "pthread_cond_signal ( & c , & m ) ;")) ≡ Some (Unexpected, 6)
+unfolding read main read_file stmt_at cond_at inner_at loop_int_at decl_at local_at simple_at library_at thread_arg_at plain_at value_at paren_at index_at prefix_at expr_at unary_at
+text122 = refl
+
+text123 : read 3 (main (codes "pthread_cond_broadcast ( & c [ 0 ] ) ;")) ≡ Some (Unexpected, 6)
+unfolding read main read_file stmt_at cond_at inner_at loop_int_at decl_at local_at simple_at library_at thread_arg_at plain_at value_at paren_at index_at prefix_at expr_at unary_at
+text123 = refl
+
+text124 : read 3 (main (codes "pthread_cond_t c ;")) ≡ Some (Unexpected, 4)
+unfolding read main read_file stmt_at cond_at inner_at loop_int_at decl_at local_at simple_at library_at thread_arg_at plain_at value_at paren_at index_at prefix_at expr_at unary_at
+text124 = refl
+
 -- ---- the limit of 200
 
 repeated : ℕ → List ℕ → List ℕ

@@ -12,7 +12,7 @@ use Rattle.c_grammar.specs.Read.{word_code, sign_code, is_word_kind, is_sign_kin
 use Rattle.c_grammar.proofs.Reader.{IsReader, one_reader, IsToken}
 
 word_at : ℕ → Word
-word_at n = cond (eqb n 0) w.Break (cond (eqb n 1) w.Continue (cond (eqb n 2) w.Else (cond (eqb n 3) w.For (cond (eqb n 4) w.If (cond (eqb n 5) w.Int (cond (eqb n 6) w.Long (cond (eqb n 7) w.Return (cond (eqb n 8) w.Static (cond (eqb n 9) w.Void (cond (eqb n 10) w.Volatile (cond (eqb n 11) w.While (cond (eqb n 12) w.Null (cond (eqb n 13) w.Printf (cond (eqb n 14) w.Scanf (cond (eqb n 15) w.Thread (cond (eqb n 16) w.Mutex (cond (eqb n 17) w.Create (cond (eqb n 18) w.Join (cond (eqb n 19) w.Lock (cond (eqb n 20) w.Unlock (cond (eqb n 21) w.MutexInitializer (cond (eqb n 22) w.Enter (cond (eqb n 23) w.Leave (cond (eqb n 24) w.Wait (cond (eqb n 25) w.Done (cond (eqb n 26) w.First (cond (eqb n 27) w.Add (w.Value))))))))))))))))))))))))))))
+word_at n = cond (eqb n 0) w.Break (cond (eqb n 1) w.Continue (cond (eqb n 2) w.Else (cond (eqb n 3) w.For (cond (eqb n 4) w.If (cond (eqb n 5) w.Int (cond (eqb n 6) w.Long (cond (eqb n 7) w.Return (cond (eqb n 8) w.Static (cond (eqb n 9) w.Void (cond (eqb n 10) w.Volatile (cond (eqb n 11) w.While (cond (eqb n 12) w.Null (cond (eqb n 13) w.Printf (cond (eqb n 14) w.Scanf (cond (eqb n 15) w.Thread (cond (eqb n 16) w.Mutex (cond (eqb n 17) w.Create (cond (eqb n 18) w.Join (cond (eqb n 19) w.Lock (cond (eqb n 20) w.Unlock (cond (eqb n 21) w.MutexInitializer (cond (eqb n 22) w.Cond (cond (eqb n 23) w.CondWait (cond (eqb n 24) w.Signal (cond (eqb n 25) w.Broadcast (cond (eqb n 26) w.CondInitializer (cond (eqb n 27) w.Enter (cond (eqb n 28) w.Leave (cond (eqb n 29) w.Wait (cond (eqb n 30) w.Done (cond (eqb n 31) w.First (cond (eqb n 32) w.Add (w.Value)))))))))))))))))))))))))))))))))
 
 word_back : (x : Word) → word_at (word_code x) ≡ x
 unfolding word_at
@@ -38,6 +38,11 @@ word_back w.Join = refl
 word_back w.Lock = refl
 word_back w.Unlock = refl
 word_back w.MutexInitializer = refl
+word_back w.Cond = refl
+word_back w.CondWait = refl
+word_back w.Signal = refl
+word_back w.Broadcast = refl
+word_back w.CondInitializer = refl
 word_back w.Enter = refl
 word_back w.Leave = refl
 word_back w.Wait = refl

@@ -97,17 +97,29 @@ abbrev pub global_mutex_marks : ℕ → GlobalMutex → List Mark
 global_mutex_marks d (OneMutex x) = (ident x, d) ∷ []
 global_mutex_marks d (SetMutex x at value) = (ident x, d) ∷ ((sign s.Assign at, d) ∷ ((word w.MutexInitializer value, d) ∷ []))
 
--- `"int" gvar { "," gvar } | "pthread_t" hold { "," hold } | "pthread_mutex_t" mutex { "," mutex }`, behind any number of
--- `static` and `volatile` and before `;` (6.7 of ISO/IEC 9899:2011).
+-- name [ "=" "PTHREAD_COND_INITIALIZER" ]
+pub data GlobalCond : Type 0 where
+  OneCond : Ident → GlobalCond
+  SetCond : Ident → Spot → Spot → GlobalCond
+
+abbrev pub global_cond_marks : ℕ → GlobalCond → List Mark
+global_cond_marks d (OneCond x) = (ident x, d) ∷ []
+global_cond_marks d (SetCond x at value) = (ident x, d) ∷ ((sign s.Assign at, d) ∷ ((word w.CondInitializer value, d) ∷ []))
+
+-- `"int" gvar { "," gvar } | "pthread_t" hold { "," hold } | "pthread_mutex_t" mutex { "," mutex }
+-- | "pthread_cond_t" cvar { "," cvar }`, behind any number of `static` and `volatile` and before `;` (6.7 of
+-- ISO/IEC 9899:2011).
 pub data Globals : Type 0 where
   GlobalInts : Spot → GlobalInt → List (Spot × GlobalInt) → Globals
   GlobalHolds : Spot → Hold → List (Spot × Hold) → Globals
   GlobalMutexes : Spot → GlobalMutex → List (Spot × GlobalMutex) → Globals
+  GlobalConds : Spot → GlobalCond → List (Spot × GlobalCond) → Globals
 
 abbrev pub globals_marks : ℕ → Globals → List Mark
 globals_marks d (GlobalInts at x more) = (word w.Int at, d) ∷ (global_int_marks d x ++ each (λ y. (sign s.Comma y.0, d) ∷ global_int_marks d y.1) more)
 globals_marks d (GlobalHolds at x more) = (word w.Thread at, d) ∷ (hold_marks d x ++ more_holds_marks d more)
 globals_marks d (GlobalMutexes at x more) = (word w.Mutex at, d) ∷ (global_mutex_marks d x ++ each (λ y. (sign s.Comma y.0, d) ∷ global_mutex_marks d y.1) more)
+globals_marks d (GlobalConds at x more) = (word w.Cond at, d) ∷ (global_cond_marks d x ++ each (λ y. (sign s.Comma y.0, d) ∷ global_cond_marks d y.1) more)
 
 -- "static" | "volatile"
 pub data Qualifier : Type 0 where

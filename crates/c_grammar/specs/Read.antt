@@ -32,13 +32,18 @@ word_code w.Join = 18
 word_code w.Lock = 19
 word_code w.Unlock = 20
 word_code w.MutexInitializer = 21
-word_code w.Enter = 22
-word_code w.Leave = 23
-word_code w.Wait = 24
-word_code w.Done = 25
-word_code w.First = 26
-word_code w.Add = 27
-word_code w.Value = 28
+word_code w.Cond = 22
+word_code w.CondWait = 23
+word_code w.Signal = 24
+word_code w.Broadcast = 25
+word_code w.CondInitializer = 26
+word_code w.Enter = 27
+word_code w.Leave = 28
+word_code w.Wait = 29
+word_code w.Done = 30
+word_code w.First = 31
+word_code w.Add = 32
+word_code w.Value = 33
 
 -- a number for each sign, to compare them by
 abbrev pub sign_code : Sign → ℕ

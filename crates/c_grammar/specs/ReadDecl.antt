@@ -9,7 +9,7 @@ use Rattle.c_grammar.specs.Reader.{Out, seq, mapped, alt, maybe_read}
 use Rattle.c_grammar.specs.Token.{Token, Ident, Numeral}
 use Rattle.c_grammar.specs.Expr.{Expr}
 use Rattle.c_grammar.specs.Simple.{Value}
-use Rattle.c_grammar.specs.Decl.{Size, Count, Named, Hold, OneThread, Threads, LocalInt, OneLocal, SetLocal, LocalArray, Decl, Ints, Holds, LoopInt, OneLoop, SetLoop, GlobalInt, OneGlobal, SetGlobal, GlobalArray, GlobalMutex, OneMutex, SetMutex}
+use Rattle.c_grammar.specs.Decl.{Size, Count, Named, Hold, OneThread, Threads, LocalInt, OneLocal, SetLocal, LocalArray, Decl, Ints, Holds, LoopInt, OneLoop, SetLoop, GlobalInt, OneGlobal, SetGlobal, GlobalArray, GlobalMutex, OneMutex, SetMutex, GlobalCond, OneCond, SetCond}
 use Rattle.c_grammar.specs.Read.{is_word, is_sign, is_number, read_word, read_sign, read_ident, read_numeral, listed}
 use Rattle.c_grammar.specs.ReadExpr.{expr_at}
 use Rattle.c_grammar.specs.ReadSimple.{is_bracket, value_at}
@@ -87,3 +87,10 @@ global_mutex_from (x, Some v) = SetMutex x v.0 v.1
 
 abbrev pub read_global_mutex : List Token → Out Token GlobalMutex
 read_global_mutex = mapped global_mutex_from (seq read_ident (maybe_read is_assign (seq (read_sign s.Assign) (read_word w.MutexInitializer))))
+
+abbrev pub global_cond_from : Ident × Option (Spot × Spot) → GlobalCond
+global_cond_from (x, None) = OneCond x
+global_cond_from (x, Some v) = SetCond x v.0 v.1
+
+abbrev pub read_global_cond : List Token → Out Token GlobalCond
+read_global_cond = mapped global_cond_from (seq read_ident (maybe_read is_assign (seq (read_sign s.Assign) (read_word w.CondInitializer))))

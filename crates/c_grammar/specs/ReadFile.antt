@@ -9,14 +9,14 @@ use Rattle.c_grammar.specs.declared.sign.Sign.TheVariants as s
 use Rattle.c_grammar.specs.Reader.{Out, Got, Stop, Unexpected, next, head, one_of, seq, seq_dep, mapped, alt, maybe_read, many, whole}
 use Rattle.c_grammar.specs.Token.{Kind, IsName, IsWord, IsSign, Token, Ident, Numeral, Text}
 use Rattle.c_grammar.specs.Op.{Ops}
-use Rattle.c_grammar.specs.Decl.{Size, Hold, GlobalInt, GlobalMutex, GlobalInts, GlobalHolds, GlobalMutexes, Qualifier, Static, Volatile}
+use Rattle.c_grammar.specs.Decl.{Size, Hold, GlobalInt, GlobalMutex, GlobalCond, GlobalInts, GlobalHolds, GlobalMutexes, GlobalConds, Qualifier, Static, Volatile}
 use Rattle.c_grammar.specs.Stmt.{Items}
 use Rattle.c_grammar.specs.File.{Header, Angled, Quoted, Replacement, Plainly, InParens, ReturnsInt, ReturnsVoid, Param, ParamOf, Params, NoParams, VoidParams, SomeParams, Head, PlainHead, ThreadHead, Top, Include, Define, Variables, Prototype, Function, File, is_greater, line_of, is_later}
 use Rattle.c_grammar.specs.Read.{is_word, is_sign, is_name, at_sign, ident_of, numeral_of, text_of, read_word, read_sign, read_ident, commas, listed}
 use Rattle.c_grammar.specs.ReadExpr.{is_some}
 use Rattle.c_grammar.specs.ReadSimple.{is_paren}
 use Rattle.c_grammar.specs.ReadOp.{read_ops}
-use Rattle.c_grammar.specs.ReadDecl.{Declared, global_int_from, read_global_tail, read_global_int, read_global_mutex, read_hold}
+use Rattle.c_grammar.specs.ReadDecl.{Declared, global_int_from, read_global_tail, read_global_int, read_global_mutex, read_global_cond, read_hold}
 use Rattle.c_grammar.specs.ReadStmt.{is_semicolon, read_semicolon, items_with, stmt_at}
 
 -- ---- includes and defines, on one line
@@ -164,6 +164,9 @@ HoldParts = (Spot × (Hold × List (Spot × Hold))) × Spot
 abbrev pub MutexParts : Type 0
 MutexParts = (Spot × (GlobalMutex × List (Spot × GlobalMutex))) × Spot
 
+abbrev pub CondParts : Type 0
+CondParts = (Spot × (GlobalCond × List (Spot × GlobalCond))) × Spot
+
 abbrev pub ThreadHeadParts : Type 0
 ThreadHeadParts = Spot × (Ident × (Spot × (Spot × (Spot × (Option Ident × (Spot × HeadEnd))))))
 
@@ -171,7 +174,7 @@ abbrev pub VoidParts : Type 0
 VoidParts = Spot × (ThreadHeadParts ⊎ (Ident × HeadTail))
 
 abbrev pub Body : Type 0
-Body = IntParts ⊎ (HoldParts ⊎ (MutexParts ⊎ VoidParts))
+Body = IntParts ⊎ (HoldParts ⊎ (MutexParts ⊎ (VoidParts ⊎ CondParts)))
 
 abbrev pub thread_head_at : ℕ → List Token → Out Token ThreadHeadParts
 thread_head_at c = seq (read_sign s.Star) (seq read_ident (seq (read_sign s.OpenParen) (seq (read_word w.Void) (seq (read_sign s.Star) (seq (maybe_read is_name read_ident) (seq (read_sign s.CloseParen) (head_end_at c)))))))
@@ -182,15 +185,18 @@ void_at c = seq (read_word w.Void) (alt (is_sign s.Star) (thread_head_at c) (seq
 abbrev pub read_mutexes : List Token → Out Token MutexParts
 read_mutexes = seq (seq (read_word w.Mutex) (listed read_global_mutex)) read_semicolon
 
+abbrev pub read_conds : List Token → Out Token CondParts
+read_conds = seq (seq (read_word w.Cond) (listed read_global_cond)) read_semicolon
+
 abbrev pub read_holds : List Token → Out Token HoldParts
 read_holds = seq (seq (read_word w.Thread) (listed read_hold)) read_semicolon
 
-abbrev pub last_at : Bool → ℕ → List Token → Out Token (MutexParts ⊎ VoidParts)
-last_at true c = alt (is_word w.Mutex) read_mutexes (void_at c)
-last_at false c = mapped inl read_mutexes
+abbrev pub last_at : Bool → ℕ → List Token → Out Token (VoidParts ⊎ CondParts)
+last_at true c = alt (is_word w.Void) (void_at c) read_conds
+last_at false c = mapped inr read_conds
 
 abbrev pub body_at : Bool → ℕ → List Token → Out Token Body
-body_at heads c = alt (is_word w.Int) (seq (read_word w.Int) (seq read_ident (int_tail_at heads c))) (alt (is_word w.Thread) read_holds (last_at heads c))
+body_at heads c = alt (is_word w.Int) (seq (read_word w.Int) (seq read_ident (int_tail_at heads c))) (alt (is_word w.Thread) read_holds (alt (is_word w.Mutex) read_mutexes (last_at heads c)))
 
 -- ---- files
 
@@ -208,8 +214,9 @@ top_from (inr (q, inl (at, (x, inl t)))) = with_end (PlainHead (static_of q) Ret
 top_from (inr (q, inl (at, (x, inr t)))) = Variables q (GlobalInts at (global_int_from (x, t.0)) t.1.0) t.1.1
 top_from (inr (q, inr (inl x))) = Variables q (GlobalHolds x.0.0 x.0.1.0 x.0.1.1) x.1
 top_from (inr (q, inr (inr (inl x)))) = Variables q (GlobalMutexes x.0.0 x.0.1.0 x.0.1.1) x.1
-top_from (inr (q, inr (inr (inr (at, inl x))))) = with_end (ThreadHead (static_of q) at x.0 x.1.0 x.1.1.0 x.1.1.1.0 x.1.1.1.1.0 x.1.1.1.1.1.0 x.1.1.1.1.1.1.0) x.1.1.1.1.1.1.1
-top_from (inr (q, inr (inr (inr (at, inr (x, t)))))) = with_end (PlainHead (static_of q) ReturnsVoid at x t.0 t.1.0 t.1.1.0) t.1.1.1
+top_from (inr (q, inr (inr (inr (inl (at, inl x)))))) = with_end (ThreadHead (static_of q) at x.0 x.1.0 x.1.1.0 x.1.1.1.0 x.1.1.1.1.0 x.1.1.1.1.1.0 x.1.1.1.1.1.1.0) x.1.1.1.1.1.1.1
+top_from (inr (q, inr (inr (inr (inl (at, inr (x, t))))))) = with_end (PlainHead (static_of q) ReturnsVoid at x t.0 t.1.0 t.1.1.0) t.1.1.1
+top_from (inr (q, inr (inr (inr (inr x))))) = Variables q (GlobalConds x.0.0 x.0.1.0 x.0.1.1) x.1
 
 abbrev pub top_at : ℕ → List Token → Out Token Top
 top_at c = mapped top_from (alt (is_sign s.Hash) read_directive (seq_dep read_qualifiers (λ q. body_at (heads_allowed q) c)))
@@ -222,6 +229,7 @@ begins_top_kind (IsWord w.Int) = true
 begins_top_kind (IsWord w.Void) = true
 begins_top_kind (IsWord w.Thread) = true
 begins_top_kind (IsWord w.Mutex) = true
+begins_top_kind (IsWord w.Cond) = true
 begins_top_kind _ = false
 
 abbrev pub begins_top : Token → Bool

@@ -8,7 +8,7 @@ use Rattle.c_grammar.specs.declared.sign.Sign.TheVariants as s
 use Rattle.c_grammar.specs.Reader.{Out, Got, one_of, seq, seq_dep, mapped, alt, shut, maybe_read}
 use Rattle.c_grammar.specs.Token.{Kind, IsSign, Token, Ident, Text}
 use Rattle.c_grammar.specs.Expr.{Expr, Number, Unary, Long}
-use Rattle.c_grammar.specs.Simple.{Place, Target, TargetOf, Args, Call, CallOf, Value, Computed, Called, Change, AddTo, SubtractFrom, MultiplyBy, DivideBy, RemainderBy, Step, Up, Down, Plain, SetTo, Changed, SteppedAfter, SteppedBefore, ThreadArg, NullArg, CastArg, Library, Create, Join, Lock, Unlock, Print, Scan, Simple, PlainPart, SetCall, OnlyCall, LibraryPart}
+use Rattle.c_grammar.specs.Simple.{Place, Target, TargetOf, Args, Call, CallOf, Value, Computed, Called, Change, AddTo, SubtractFrom, MultiplyBy, DivideBy, RemainderBy, Step, Up, Down, Plain, SetTo, Changed, SteppedAfter, SteppedBefore, ThreadArg, NullArg, CastArg, Library, Create, Join, Lock, Unlock, Print, Scan, Wait, Signal, Broadcast, Simple, PlainPart, SetCall, OnlyCall, LibraryPart}
 use Rattle.c_grammar.specs.Read.{is_word, is_sign, is_name, read_word, read_sign, read_ident, read_text, commas, listed}
 use Rattle.c_grammar.specs.ReadExpr.{is_some, begins_expr, operators, Link, group, links_with, NameParts, Operand, Parenthesised, CastParts, name_from, paren_from, operand_with, inside_with, unary_at, expr_at, prefix_at, index_at, paren_at}
 
@@ -169,8 +169,15 @@ PrintParts = Spot × (Spot × (Text × (List (Spot × Expr) × Spot)))
 abbrev pub ScanParts : Type 0
 ScanParts = Spot × (Spot × (Text × (Spot × (Spot × (Target × Spot)))))
 
+abbrev pub WaitParts : Type 0
+WaitParts = Spot × (Spot × (Spot × (Ident × (Spot × (Spot × (Ident × Spot))))))
+
+-- a signal or a broadcast
+abbrev pub WakeParts : Type 0
+WakeParts = Spot × (Spot × (Spot × (Ident × Spot)))
+
 abbrev pub LibraryParts : Type 0
-LibraryParts = CreateParts ⊎ (JoinParts ⊎ (LockParts ⊎ (LockParts ⊎ (PrintParts ⊎ ScanParts))))
+LibraryParts = CreateParts ⊎ (JoinParts ⊎ (LockParts ⊎ (LockParts ⊎ (PrintParts ⊎ (ScanParts ⊎ (WaitParts ⊎ (WakeParts ⊎ WakeParts)))))))
 
 abbrev pub library_from : LibraryParts → Library
 library_from (inl x) = Create x.0 x.1.0 x.1.1.0 x.1.1.1.0 x.1.1.1.1.0 x.1.1.1.1.1.0 x.1.1.1.1.1.1.0 x.1.1.1.1.1.1.1.0 x.1.1.1.1.1.1.1.1.0 x.1.1.1.1.1.1.1.1.1.0 x.1.1.1.1.1.1.1.1.1.1
@@ -178,7 +185,10 @@ library_from (inr (inl x)) = Join x.0 x.1.0 x.1.1.0 x.1.1.1.0 x.1.1.1.1.0 x.1.1.
 library_from (inr (inr (inl x))) = Lock x.0 x.1.0 x.1.1.0 x.1.1.1.0 x.1.1.1.1
 library_from (inr (inr (inr (inl x)))) = Unlock x.0 x.1.0 x.1.1.0 x.1.1.1.0 x.1.1.1.1
 library_from (inr (inr (inr (inr (inl x))))) = Print x.0 x.1.0 x.1.1.0 x.1.1.1.0 x.1.1.1.1
-library_from (inr (inr (inr (inr (inr x))))) = Scan x.0 x.1.0 x.1.1.0 x.1.1.1.0 x.1.1.1.1.0 x.1.1.1.1.1.0 x.1.1.1.1.1.1
+library_from (inr (inr (inr (inr (inr (inl x)))))) = Scan x.0 x.1.0 x.1.1.0 x.1.1.1.0 x.1.1.1.1.0 x.1.1.1.1.1.0 x.1.1.1.1.1.1
+library_from (inr (inr (inr (inr (inr (inr (inl x))))))) = Wait x.0 x.1.0 x.1.1.0 x.1.1.1.0 x.1.1.1.1.0 x.1.1.1.1.1.0 x.1.1.1.1.1.1.0 x.1.1.1.1.1.1.1
+library_from (inr (inr (inr (inr (inr (inr (inr (inl x)))))))) = Signal x.0 x.1.0 x.1.1.0 x.1.1.1.0 x.1.1.1.1
+library_from (inr (inr (inr (inr (inr (inr (inr (inr x)))))))) = Broadcast x.0 x.1.0 x.1.1.0 x.1.1.1.0 x.1.1.1.1
 
 abbrev pub create_at : (c d : ℕ) → List Token → Out Token CreateParts
 create_at c d = seq (read_word w.Create) (seq (read_sign s.OpenParen) (seq (read_sign s.Ampersand) (seq (target_at c d) (seq (read_sign s.Comma) (seq (read_word w.Null)
@@ -196,9 +206,13 @@ print_at c d = seq (read_word w.Printf) (seq (read_sign s.OpenParen) (seq read_t
 abbrev pub scan_at : (c d : ℕ) → List Token → Out Token ScanParts
 scan_at c d = seq (read_word w.Scanf) (seq (read_sign s.OpenParen) (seq read_text (seq (read_sign s.Comma) (seq (read_sign s.Ampersand) (seq (target_at c d) (read_sign s.CloseParen))))))
 
+abbrev pub wait_at : List Token → Out Token WaitParts
+wait_at = seq (read_word w.CondWait) (seq (read_sign s.OpenParen) (seq (read_sign s.Ampersand) (seq read_ident (seq (read_sign s.Comma) (seq (read_sign s.Ampersand) (seq read_ident (read_sign s.CloseParen)))))))
+
 unfoldable pub library_at : (c d : ℕ) → List Token → Out Token Library
 library_at c d = mapped library_from (alt (is_word w.Create) (create_at c d) (alt (is_word w.Join) (join_at c d) (alt (is_word w.Lock) (seq (read_word w.Lock) lock_tail)
-    (alt (is_word w.Unlock) (seq (read_word w.Unlock) lock_tail) (alt (is_word w.Printf) (print_at c d) (scan_at c d))))))
+    (alt (is_word w.Unlock) (seq (read_word w.Unlock) lock_tail) (alt (is_word w.Printf) (print_at c d) (alt (is_word w.Scanf) (scan_at c d)
+    (alt (is_word w.CondWait) wait_at (alt (is_word w.Signal) (seq (read_word w.Signal) lock_tail) (seq (read_word w.Broadcast) lock_tail)))))))))
 
 -- ---- simple statements
 

@@ -97,6 +97,9 @@ begins_item_kind (IsWord w.Create) = true
 begins_item_kind (IsWord w.Join) = true
 begins_item_kind (IsWord w.Lock) = true
 begins_item_kind (IsWord w.Unlock) = true
+begins_item_kind (IsWord w.CondWait) = true
+begins_item_kind (IsWord w.Signal) = true
+begins_item_kind (IsWord w.Broadcast) = true
 begins_item_kind _ = false
 
 -- what an item begins with

@@ -140,6 +140,11 @@ pub data Library : Type 0 where
   Print : Spot → Spot → Text → List (Spot × Expr) → Spot → Library
   -- string , & target
   Scan : Spot → Spot → Text → Spot → Spot → Target → Spot → Library
+  -- & name , & name
+  Wait : Spot → Spot → Spot → Ident → Spot → Spot → Ident → Spot → Library
+  -- & name
+  Signal : Spot → Spot → Spot → Ident → Spot → Library
+  Broadcast : Spot → Spot → Spot → Ident → Spot → Library
 
 abbrev pub is_library : Library → Bool
 is_library (Create at before amp t comma1 null comma2 f comma3 arg after) = is_target t && is_thread_arg arg
@@ -148,6 +153,9 @@ is_library (Lock at before amp m after) = true
 is_library (Unlock at before amp m after) = true
 is_library (Print at before text more after) = are_exprs more
 is_library (Scan at before text comma amp t after) = is_target t
+is_library (Wait at before amp1 c comma amp2 m after) = true
+is_library (Signal at before amp c after) = true
+is_library (Broadcast at before amp c after) = true
 
 abbrev pub library_marks : ℕ → Library → List Mark
 library_marks d (Create at before amp t comma1 null comma2 f comma3 arg after) =
@@ -160,6 +168,10 @@ library_marks d (Unlock at before amp m after) = (word w.Unlock at, d) ∷ ((sig
 library_marks d (Print at before text more after) = (word w.Printf at, d) ∷ ((sign s.OpenParen before, d) ∷ ((quoted text, d) ∷ (more_exprs_marks d more ++ (sign s.CloseParen after, d) ∷ [])))
 library_marks d (Scan at before text comma amp t after) =
     (word w.Scanf at, d) ∷ ((sign s.OpenParen before, d) ∷ ((quoted text, d) ∷ ((sign s.Comma comma, d) ∷ ((sign s.Ampersand amp, d) ∷ (target_marks d t ++ (sign s.CloseParen after, d) ∷ [])))))
+library_marks d (Wait at before amp1 c comma amp2 m after) =
+    (word w.CondWait at, d) ∷ ((sign s.OpenParen before, d) ∷ ((sign s.Ampersand amp1, d) ∷ ((ident c, d) ∷ ((sign s.Comma comma, d) ∷ ((sign s.Ampersand amp2, d) ∷ ((ident m, d) ∷ ((sign s.CloseParen after, d) ∷ [])))))))
+library_marks d (Signal at before amp c after) = (word w.Signal at, d) ∷ ((sign s.OpenParen before, d) ∷ ((sign s.Ampersand amp, d) ∷ ((ident c, d) ∷ ((sign s.CloseParen after, d) ∷ []))))
+library_marks d (Broadcast at before amp c after) = (word w.Broadcast at, d) ∷ ((sign s.OpenParen before, d) ∷ ((sign s.Ampersand amp, d) ∷ ((ident c, d) ∷ ((sign s.CloseParen after, d) ∷ []))))
 
 -- plain | target "=" call | call | a call of the headers
 pub data Simple : Type 0 where

@@ -30,6 +30,11 @@ word_text w.Join = codes "pthread_join"
 word_text w.Lock = codes "pthread_mutex_lock"
 word_text w.Unlock = codes "pthread_mutex_unlock"
 word_text w.MutexInitializer = codes "PTHREAD_MUTEX_INITIALIZER"
+word_text w.Cond = codes "pthread_cond_t"
+word_text w.CondWait = codes "pthread_cond_wait"
+word_text w.Signal = codes "pthread_cond_signal"
+word_text w.Broadcast = codes "pthread_cond_broadcast"
+word_text w.CondInitializer = codes "PTHREAD_COND_INITIALIZER"
 word_text w.Enter = codes "cfix_enter"
 word_text w.Leave = codes "cfix_leave"
 word_text w.Wait = codes "cfix_wait"
@@ -39,7 +44,7 @@ word_text w.Add = codes "cfix_add"
 word_text w.Value = codes "cfix_value"
 
 abbrev pub words : List Word
-words = w.Break ∷ w.Continue ∷ w.Else ∷ w.For ∷ w.If ∷ w.Int ∷ w.Long ∷ w.Return ∷ w.Static ∷ w.Void ∷ w.Volatile ∷ w.While ∷ w.Null ∷ w.Printf ∷ w.Scanf ∷ w.Thread ∷ w.Mutex ∷ w.Create ∷ w.Join ∷ w.Lock ∷ w.Unlock ∷ w.MutexInitializer ∷ w.Enter ∷ w.Leave ∷ w.Wait ∷ w.Done ∷ w.First ∷ w.Add ∷ w.Value ∷ []
+words = w.Break ∷ w.Continue ∷ w.Else ∷ w.For ∷ w.If ∷ w.Int ∷ w.Long ∷ w.Return ∷ w.Static ∷ w.Void ∷ w.Volatile ∷ w.While ∷ w.Null ∷ w.Printf ∷ w.Scanf ∷ w.Thread ∷ w.Mutex ∷ w.Create ∷ w.Join ∷ w.Lock ∷ w.Unlock ∷ w.MutexInitializer ∷ w.Cond ∷ w.CondWait ∷ w.Signal ∷ w.Broadcast ∷ w.CondInitializer ∷ w.Enter ∷ w.Leave ∷ w.Wait ∷ w.Done ∷ w.First ∷ w.Add ∷ w.Value ∷ []
 
 abbrev pub sign_text : Sign → List ℕ
 sign_text s.OpenParen = codes "("

@@ -46,6 +46,16 @@ pub enum Word {
     Unlock,
     /// `PTHREAD_MUTEX_INITIALIZER`
     MutexInitializer,
+    /// `pthread_cond_t`
+    Cond,
+    /// `pthread_cond_wait`
+    CondWait,
+    /// `pthread_cond_signal`
+    Signal,
+    /// `pthread_cond_broadcast`
+    Broadcast,
+    /// `PTHREAD_COND_INITIALIZER`
+    CondInitializer,
     /// `cfix_enter`
     Enter,
     /// `cfix_leave`

@@ -45,7 +45,10 @@ fn library_spot(raw: &Library) -> Spot
         | Library::Lock { at, .. }
         | Library::Unlock { at, .. }
         | Library::Print { at, .. }
-        | Library::Scan { at, .. } => *at,
+        | Library::Scan { at, .. }
+        | Library::Wait { at, .. }
+        | Library::Signal { at, .. }
+        | Library::Broadcast { at, .. } => *at,
     }
 }
 

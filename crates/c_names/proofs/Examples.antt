@@ -545,3 +545,68 @@ case125 = refl
 case126 : least (codes "void *w(void *a) { return NULL; } int main(void) { int x = w(1); }") ≡ (RootCalled, 59, 1) ∷ []
 unfolding pieces_at read_file stmt_at cond_at inner_at loop_int_at decl_at local_at simple_at library_at thread_arg_at plain_at value_at paren_at index_at prefix_at expr_at unary_at noted
 case126 = refl
+
+-- condition variables
+case127 : least (codes "pthread_cond_t c; int main(void) { pthread_cond_signal(&c); }") ≡ []
+unfolding pieces_at read_file stmt_at cond_at inner_at loop_int_at decl_at local_at simple_at library_at thread_arg_at plain_at value_at paren_at index_at prefix_at expr_at unary_at noted
+case127 = refl
+
+case128 : least (codes "pthread_mutex_t c; int main(void) { pthread_cond_signal(&c); }") ≡ (WrongUse, 57, 1) ∷ []
+unfolding pieces_at read_file stmt_at cond_at inner_at loop_int_at decl_at local_at simple_at library_at thread_arg_at plain_at value_at paren_at index_at prefix_at expr_at unary_at noted
+case128 = refl
+
+case129 : least (codes "int c; int main(void) { pthread_cond_broadcast(&c); }") ≡ (WrongUse, 48, 1) ∷ []
+unfolding pieces_at read_file stmt_at cond_at inner_at loop_int_at decl_at local_at simple_at library_at thread_arg_at plain_at value_at paren_at index_at prefix_at expr_at unary_at noted
+case129 = refl
+
+case130 : least (codes "int main(void) { pthread_cond_broadcast(&c); }") ≡ (Unknown, 41, 1) ∷ []
+unfolding pieces_at read_file stmt_at cond_at inner_at loop_int_at decl_at local_at simple_at library_at thread_arg_at plain_at value_at paren_at index_at prefix_at expr_at unary_at noted
+case130 = refl
+
+case131 : least (codes "pthread_mutex_t m; pthread_cond_t c; int main(void) { pthread_cond_wait(&c, &m); }") ≡ []
+unfolding pieces_at read_file stmt_at cond_at inner_at loop_int_at decl_at local_at simple_at library_at thread_arg_at plain_at value_at paren_at index_at prefix_at expr_at unary_at noted
+case131 = refl
+
+case132 : least (codes "pthread_mutex_t m; pthread_cond_t c; int main(void) { pthread_cond_wait(&m, &c); }") ≡ (WrongUse, 73, 1) ∷ []
+unfolding pieces_at read_file stmt_at cond_at inner_at loop_int_at decl_at local_at simple_at library_at thread_arg_at plain_at value_at paren_at index_at prefix_at expr_at unary_at noted
+case132 = refl
+
+case133 : least (codes "pthread_cond_t c, d; int main(void) { pthread_cond_wait(&c, &d); }") ≡ (WrongUse, 61, 1) ∷ []
+unfolding pieces_at read_file stmt_at cond_at inner_at loop_int_at decl_at local_at simple_at library_at thread_arg_at plain_at value_at paren_at index_at prefix_at expr_at unary_at noted
+case133 = refl
+
+case134 : least (codes "pthread_cond_t c; int main(void) { pthread_cond_wait(&c, &m); }") ≡ (Unknown, 58, 1) ∷ []
+unfolding pieces_at read_file stmt_at cond_at inner_at loop_int_at decl_at local_at simple_at library_at thread_arg_at plain_at value_at paren_at index_at prefix_at expr_at unary_at noted
+case134 = refl
+
+case135 : least (codes "int m; int main(void) { pthread_cond_wait(&c, &m); }") ≡ (Unknown, 43, 1) ∷ []
+unfolding pieces_at read_file stmt_at cond_at inner_at loop_int_at decl_at local_at simple_at library_at thread_arg_at plain_at value_at paren_at index_at prefix_at expr_at unary_at noted
+case135 = refl
+
+case136 : least (codes "pthread_cond_t c; int main(void) { pthread_mutex_lock(&c); }") ≡ (WrongUse, 55, 1) ∷ []
+unfolding pieces_at read_file stmt_at cond_at inner_at loop_int_at decl_at local_at simple_at library_at thread_arg_at plain_at value_at paren_at index_at prefix_at expr_at unary_at noted
+case136 = refl
+
+case137 : least (codes "pthread_cond_t c; int main(void) { int x = c; }") ≡ (WrongUse, 43, 1) ∷ []
+unfolding pieces_at read_file stmt_at cond_at inner_at loop_int_at decl_at local_at simple_at library_at thread_arg_at plain_at value_at paren_at index_at prefix_at expr_at unary_at noted
+case137 = refl
+
+case138 : least (codes "pthread_cond_t c; int main(void) { c = 1; }") ≡ (WrongUse, 35, 1) ∷ []
+unfolding pieces_at read_file stmt_at cond_at inner_at loop_int_at decl_at local_at simple_at library_at thread_arg_at plain_at value_at paren_at index_at prefix_at expr_at unary_at noted
+case138 = refl
+
+case139 : least (codes "pthread_cond_t c; int main(void) { int c; c = 1; }") ≡ []
+unfolding pieces_at read_file stmt_at cond_at inner_at loop_int_at decl_at local_at simple_at library_at thread_arg_at plain_at value_at paren_at index_at prefix_at expr_at unary_at noted
+case139 = refl
+
+case140 : least (codes "pthread_cond_t c; int main(void) { int c; pthread_cond_signal(&c); }") ≡ (WrongUse, 63, 1) ∷ []
+unfolding pieces_at read_file stmt_at cond_at inner_at loop_int_at decl_at local_at simple_at library_at thread_arg_at plain_at value_at paren_at index_at prefix_at expr_at unary_at noted
+case140 = refl
+
+case141 : least (codes "pthread_mutex_t c; pthread_cond_t c; int main(void) { }") ≡ (Twice, 34, 1) ∷ []
+unfolding pieces_at read_file stmt_at cond_at inner_at loop_int_at decl_at local_at simple_at library_at thread_arg_at plain_at value_at paren_at index_at prefix_at expr_at unary_at noted
+case141 = refl
+
+case142 : least (codes "pthread_cond_t cfix_c = PTHREAD_COND_INITIALIZER; int main(void) { }") ≡ (Reserved, 15, 1) ∷ []
+unfolding pieces_at read_file stmt_at cond_at inner_at loop_int_at decl_at local_at simple_at library_at thread_arg_at plain_at value_at paren_at index_at prefix_at expr_at unary_at noted
+case142 = refl

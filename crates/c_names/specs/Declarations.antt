@@ -4,11 +4,11 @@ use Rattle.std.specs.List.{list_any}
 use Rattle.std.specs.Str.{bytes_eq}
 use Rattle.cfix_base.specs.declared.Spot.{Spot}
 use Rattle.c_grammar.specs.Token.{Ident}
-use Rattle.c_grammar.specs.Decl.{Hold, OneThread, Threads, GlobalInt, OneGlobal, SetGlobal, GlobalArray, GlobalMutex, OneMutex, SetMutex, Globals, GlobalInts, GlobalHolds, GlobalMutexes}
+use Rattle.c_grammar.specs.Decl.{Hold, OneThread, Threads, GlobalInt, OneGlobal, SetGlobal, GlobalArray, GlobalMutex, OneMutex, SetMutex, GlobalCond, OneCond, SetCond, Globals, GlobalInts, GlobalHolds, GlobalMutexes, GlobalConds}
 use Rattle.c_grammar.specs.File.{Replacement, Plainly, InParens, Return, ReturnsInt, ReturnsVoid, Param, ParamOf, Params, NoParams, VoidParams, SomeParams, Head, PlainHead, ThreadHead, Include, Define, Variables, Prototype, Function, File}
 use Rattle.c_prog.specs.declared.function.FnKind.{FnKind}
 use Rattle.c_prog.specs.declared.function.FnKind.TheVariants as kind
-use Rattle.c_prog.specs.Valid.Scope.{VarKind, int, int_array, thread, thread_array, mutex}
+use Rattle.c_prog.specs.Valid.Scope.{VarKind, int, int_array, thread, thread_array, mutex, cond}
 use Rattle.c_names.specs.Uses.{Meaning, OfVariable, OfFunction, OfNumber, Form, Names}
 use Rattle.c_names.specs.Scopes.{listed}
 
@@ -31,11 +31,16 @@ abbrev pub mutex_variable : GlobalMutex → Variable
 mutex_variable (OneMutex x) = (x, mutex)
 mutex_variable (SetMutex x at value) = (x, mutex)
 
+abbrev pub cond_variable : GlobalCond → Variable
+cond_variable (OneCond x) = (x, cond)
+cond_variable (SetCond x at value) = (x, cond)
+
 -- the variables of a declaration
 abbrev pub variables : Globals → List Variable
 variables (GlobalInts at x more) = map global_int_variable (listed x more)
 variables (GlobalHolds at x more) = map hold_variable (listed x more)
 variables (GlobalMutexes at x more) = map mutex_variable (listed x more)
+variables (GlobalConds at x more) = map cond_variable (listed x more)
 
 -- ---- functions
 

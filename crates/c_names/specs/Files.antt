@@ -5,7 +5,7 @@ use Rattle.cfix_base.specs.declared.Spot.{Spot}
 use Rattle.c_grammar.specs.Reader.{each, maybe}
 use Rattle.c_grammar.specs.Token.{Ident}
 use Rattle.c_grammar.specs.Op.{Ops}
-use Rattle.c_grammar.specs.Decl.{Size, Hold, OneThread, Threads, GlobalInt, OneGlobal, SetGlobal, GlobalArray, GlobalMutex, OneMutex, SetMutex, Globals, GlobalInts, GlobalHolds, GlobalMutexes}
+use Rattle.c_grammar.specs.Decl.{Size, Hold, OneThread, Threads, GlobalInt, OneGlobal, SetGlobal, GlobalArray, GlobalMutex, OneMutex, SetMutex, GlobalCond, OneCond, SetCond, Globals, GlobalInts, GlobalHolds, GlobalMutexes, GlobalConds}
 use Rattle.c_grammar.specs.Stmt.{Items}
 use Rattle.c_grammar.specs.File.{Head, Top, Include, Define, Variables, Prototype, Function, File}
 use Rattle.c_prog.specs.declared.function.FnKind.{FnKind}
@@ -71,11 +71,16 @@ abbrev pub global_mutex_faults : GlobalMutex → List Fault
 global_mutex_faults (OneMutex x) = variable_faults x
 global_mutex_faults (SetMutex x at value) = variable_faults x
 
+abbrev pub global_cond_faults : GlobalCond → List Fault
+global_cond_faults (OneCond x) = variable_faults x
+global_cond_faults (SetCond x at value) = variable_faults x
+
 -- a declaration of global variables
 abbrev pub globals_faults : Names → Globals → List Fault
 globals_faults names (GlobalInts at x more) = each (global_int_faults names) (listed x more)
 globals_faults names (GlobalHolds at x more) = each (global_hold_faults names) (listed x more)
 globals_faults names (GlobalMutexes at x more) = each global_mutex_faults (listed x more)
+globals_faults names (GlobalConds at x more) = each global_cond_faults (listed x more)
 
 -- how many cells each variable of a declaration has: a scalar one, an array its length
 abbrev pub global_int_cells : Names → GlobalInt → Cells
@@ -91,10 +96,15 @@ abbrev pub global_mutex_cells : GlobalMutex → Cells
 global_mutex_cells (OneMutex x) = (x.spot, 1)
 global_mutex_cells (SetMutex x at value) = (x.spot, 1)
 
+abbrev pub global_cond_cells : GlobalCond → Cells
+global_cond_cells (OneCond x) = (x.spot, 1)
+global_cond_cells (SetCond x at value) = (x.spot, 1)
+
 abbrev pub globals_cells : Names → Globals → List Cells
 globals_cells names (GlobalInts at x more) = map (global_int_cells names) (listed x more)
 globals_cells names (GlobalHolds at x more) = map (global_hold_cells names) (listed x more)
 globals_cells names (GlobalMutexes at x more) = map global_mutex_cells (listed x more)
+globals_cells names (GlobalConds at x more) = map global_cond_cells (listed x more)
 
 -- ---- prototypes and functions
 

@@ -2,7 +2,7 @@
 use Rattle.std.specs.Prelude.{ℕ, ◌-◌, nat_lt, List, [], ◌∷◌, ◌++◌, map, drop, Option, Some, None}
 use Rattle.cfix_base.specs.declared.Spot.{Spot}
 use Rattle.c_grammar.specs.Expr.{Expr, Number, Name, Index, Paren, Cast, Unary, Operation}
-use Rattle.c_grammar.specs.Simple.{Target, TargetOf, Call, CallOf, Plain, SetTo, Changed, SteppedAfter, SteppedBefore, Library, Create, Join, Lock, Unlock, Print, Scan, Simple, PlainPart, SetCall, OnlyCall, LibraryPart}
+use Rattle.c_grammar.specs.Simple.{Target, TargetOf, Call, CallOf, Plain, SetTo, Changed, SteppedAfter, SteppedBefore, Library, Create, Join, Lock, Unlock, Print, Scan, Wait, Signal, Broadcast, Simple, PlainPart, SetCall, OnlyCall, LibraryPart}
 use Rattle.c_grammar.specs.Decl.{Hold, OneThread, Threads, LocalInt, OneLocal, SetLocal, LocalArray, Decl, Ints, Holds, LoopInt, OneLoop, SetLoop}
 use Rattle.c_grammar.specs.Cond.{TrueGuard, TrueGuardOf, Cond, Bare, OnTrue, OnFalse, OnBoth}
 use Rattle.c_grammar.specs.Stmt.{Jump, BareJump, ReturnValue, BareBlock, ValueBlock, First, FirstInts, FirstPlain, LoopStep, LoopStepOf, Stmt, Block, Nothing, Simply, Jumps, If, While, For, Else, NoElse, ElseDo, Items, NoItems, AndItem, Item, Declares, Does}
@@ -104,6 +104,9 @@ library_spot (Lock at before amp m after) = at
 library_spot (Unlock at before amp m after) = at
 library_spot (Print at before text more after) = at
 library_spot (Scan at before text comma amp t after) = at
+library_spot (Wait at before amp1 c comma amp2 m after) = at
+library_spot (Signal at before amp c after) = at
+library_spot (Broadcast at before amp c after) = at
 
 abbrev pub simple_spot : Simple → Spot
 simple_spot (PlainPart p) = plain_spot p

@@ -4,7 +4,7 @@ use Rattle.std.specs.Prelude.{ℕ, List, [], ◌∷◌, ◌++◌, map, Option, S
 use Rattle.cfix_base.specs.declared.Spot.{Spot}
 use Rattle.c_grammar.specs.Reader.{each}
 use Rattle.c_grammar.specs.Expr.{Expr, Number, Name, Index, Paren, Cast, Unary, Operation}
-use Rattle.c_grammar.specs.Simple.{Place, Target, TargetOf, Call, CallOf, Value, Computed, Called, Plain, SetTo, Changed, SteppedAfter, SteppedBefore, ThreadArg, NullArg, CastArg, Library, Create, Join, Lock, Unlock, Print, Scan, Simple, PlainPart, SetCall, OnlyCall, LibraryPart}
+use Rattle.c_grammar.specs.Simple.{Place, Target, TargetOf, Call, CallOf, Value, Computed, Called, Plain, SetTo, Changed, SteppedAfter, SteppedBefore, ThreadArg, NullArg, CastArg, Library, Create, Join, Lock, Unlock, Print, Scan, Wait, Signal, Broadcast, Simple, PlainPart, SetCall, OnlyCall, LibraryPart}
 use Rattle.c_prog.specs.declared.expr.Var.{Var}
 use Rattle.c_prog.specs.declared.expr.Var.TheVariants as var
 use Rattle.c_prog.specs.Valid.Scope.{Scope}
@@ -69,7 +69,7 @@ abbrev pub thread_arg_lines : Names → Scope → ThreadArg → List ℕ
 thread_arg_lines names scope (NullArg at) = []
 thread_arg_lines names scope (CastArg before void star after long e) = expr_lines names scope e
 
--- a call of the headers: thread variables and mutexes are no accesses
+-- a call of the headers: thread variables, mutexes and condition variables are no accesses
 abbrev pub library_lines : Names → Scope → Library → List ℕ
 library_lines names scope (Create at before amp t comma1 null comma2 f comma3 arg after) = index_lines names scope t ++ thread_arg_lines names scope arg
 library_lines names scope (Join at before t comma null after) = index_lines names scope t
@@ -77,6 +77,9 @@ library_lines names scope (Lock at before amp m after) = []
 library_lines names scope (Unlock at before amp m after) = []
 library_lines names scope (Print at before text more after) = exprs_lines names scope (map (λ y. y.1) more)
 library_lines names scope (Scan at before text comma amp t after) = index_lines names scope t ++ target_lines names scope t
+library_lines names scope (Wait at before amp1 c comma amp2 m after) = []
+library_lines names scope (Signal at before amp c after) = []
+library_lines names scope (Broadcast at before amp c after) = []
 
 -- a simple statement that is no declaration
 abbrev pub simple_lines : Names → Scope → Simple → List ℕ

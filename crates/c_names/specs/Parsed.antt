@@ -1,5 +1,5 @@
 -- Which files are those of a text that is read.
-use Rattle.std.specs.Prelude.{◌≡◌, ℕ, nat_le, Bool, true, List}
+use Rattle.std.specs.Prelude.{◌≡◌, ℕ, nat_le, true, List}
 use Rattle.std.specs.List.{list_all}
 use Rattle.cfix_base.specs.declared.Spot.{Spot}
 use Rattle.cfix_base.specs.declared.limits.TheConstants.{MAX_DEPTH}

@@ -5,9 +5,9 @@ use Rattle.cfix_base.specs.declared.Spot.{Spot}
 use Rattle.c_grammar.specs.Reader.{each}
 use Rattle.c_grammar.specs.Token.{Ident}
 use Rattle.c_grammar.specs.Op.{Op, OpOf, Ops}
-use Rattle.c_grammar.specs.Simple.{ThreadArg, NullArg, CastArg, Plain, SetTo, Changed, SteppedAfter, SteppedBefore, Library, Create, Join, Lock, Unlock, Print, Scan, Simple, PlainPart, SetCall, OnlyCall, LibraryPart}
+use Rattle.c_grammar.specs.Simple.{ThreadArg, NullArg, CastArg, Plain, SetTo, Changed, SteppedAfter, SteppedBefore, Library, Create, Join, Lock, Unlock, Print, Scan, Wait, Signal, Broadcast, Simple, PlainPart, SetCall, OnlyCall, LibraryPart}
 use Rattle.c_prog.specs.Valid.Scope.{Scope}
-use Rattle.c_prog.specs.Valid.Expressions.{is_mutex, is_thread_kind}
+use Rattle.c_prog.specs.Valid.Expressions.{is_mutex, is_cond, is_thread_kind}
 use Rattle.c_names.specs.declared.fault.Fault.{Fault}
 use Rattle.c_names.specs.declared.fault.FaultKind.TheVariants.{Arity, WrongUse, Limit}
 use Rattle.c_names.specs.Faults.{fault_if}
@@ -54,6 +54,10 @@ created_faults names scope f =
 abbrev pub mutex_faults : Names → Scope → Ident → List Fault
 mutex_faults names scope m = reserved_faults m ++ use_faults (is_mutex (kind_of (use_of names scope m.text))) (use_of names scope m.text) m.spot
 
+-- a condition variable
+abbrev pub cond_faults : Names → Scope → Ident → List Fault
+cond_faults names scope c = reserved_faults c ++ use_faults (is_cond (kind_of (use_of names scope c.text))) (use_of names scope c.text) c.spot
+
 -- The word printf: as many arguments as the string has `%d`, and at most 16.
 abbrev pub printf_faults : ℕ → List ℕ → Spot → List Fault
 printf_faults count text at = fault_if (not (numbers_in text == count)) at Arity ++ fault_if (nat_lt MAX_ARGUMENTS count) at Limit
@@ -69,6 +73,9 @@ library_faults names scope (Print at before text more after) =
     printf_faults (length more) text.bytes at ++ (fault_if (has_other text.bytes) text.spot WrongUse ++ exprs_faults names scope (map (λ y. y.1) more))
 library_faults names scope (Scan at before text comma amp t after) =
     fault_if (not (is_scan_text text.bytes)) text.spot WrongUse ++ int_target_faults names scope t
+library_faults names scope (Wait at before amp1 c comma amp2 m after) = cond_faults names scope c ++ mutex_faults names scope m
+library_faults names scope (Signal at before amp c after) = cond_faults names scope c
+library_faults names scope (Broadcast at before amp c after) = cond_faults names scope c
 
 -- a simple statement that is no declaration
 abbrev pub simple_faults : Names → Scope → Simple → List Fault

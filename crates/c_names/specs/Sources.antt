@@ -3,7 +3,7 @@ use Rattle.std.specs.Prelude.{ℕ, ℤ, pos, neg_ℤ, List, [], ◌∷◌, map, 
 use Rattle.cfix_base.specs.declared.Spot.{Spot}
 use Rattle.c_grammar.specs.Reader.{each}
 use Rattle.c_grammar.specs.Op.{Ops}
-use Rattle.c_grammar.specs.Decl.{Hold, OneThread, Threads, GlobalInt, OneGlobal, SetGlobal, GlobalArray, GlobalMutex, OneMutex, SetMutex, Globals, GlobalInts, GlobalHolds, GlobalMutexes}
+use Rattle.c_grammar.specs.Decl.{Hold, OneThread, Threads, GlobalInt, OneGlobal, SetGlobal, GlobalArray, GlobalMutex, OneMutex, SetMutex, GlobalCond, OneCond, SetCond, Globals, GlobalInts, GlobalHolds, GlobalMutexes, GlobalConds}
 use Rattle.c_grammar.specs.Stmt.{Items}
 use Rattle.c_grammar.specs.File.{Head, Top, Variables, Function, File}
 use Rattle.c_prog.specs.declared.function.Function as f
@@ -39,11 +39,16 @@ abbrev pub global_mutex_of : GlobalMutex → g.Global
 global_mutex_of (OneMutex x) = record { name = x.text; kind = kind.Mutex }
 global_mutex_of (SetMutex x at value) = record { name = x.text; kind = kind.Mutex }
 
+abbrev pub global_cond_of : GlobalCond → g.Global
+global_cond_of (OneCond x) = record { name = x.text; kind = kind.Cond }
+global_cond_of (SetCond x at value) = record { name = x.text; kind = kind.Cond }
+
 -- a declaration of several names spells one declaration each
 abbrev pub globals_of : Names → Globals → List g.Global
 globals_of names (GlobalInts at x more) = map (global_int_of names) (listed x more)
 globals_of names (GlobalHolds at x more) = map (global_hold_of names) (listed x more)
 globals_of names (GlobalMutexes at x more) = map global_mutex_of (listed x more)
+globals_of names (GlobalConds at x more) = map global_cond_of (listed x more)
 
 -- a function, with the operations at its start
 abbrev pub function_of : Names → Head → Ops → Items → f.Function

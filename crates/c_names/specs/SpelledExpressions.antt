@@ -2,7 +2,7 @@
 use Rattle.std.specs.Prelude.{pos, List, map, Option, Some, None}
 use Rattle.c_grammar.specs.Expr as g
 use Rattle.c_grammar.specs.Expr.{Expr, Prefix, Negate, Invert, Binary, Number, Name, Index, Paren, Cast, Unary, Operation}
-use Rattle.c_grammar.specs.Simple.{Place, Target, TargetOf, Call, CallOf, Value, Computed, Called, Change, AddTo, SubtractFrom, MultiplyBy, DivideBy, RemainderBy, Step, Up, Down, Plain, SetTo, Changed, SteppedAfter, SteppedBefore, ThreadArg, NullArg, CastArg, Library, Create, Join, Lock, Unlock, Print, Scan, Simple, PlainPart, SetCall, OnlyCall, LibraryPart}
+use Rattle.c_grammar.specs.Simple.{Place, Target, TargetOf, Call, CallOf, Value, Computed, Called, Change, AddTo, SubtractFrom, MultiplyBy, DivideBy, RemainderBy, Step, Up, Down, Plain, SetTo, Changed, SteppedAfter, SteppedBefore, ThreadArg, NullArg, CastArg, Library, Create, Join, Lock, Unlock, Print, Scan, Wait, Signal, Broadcast, Simple, PlainPart, SetCall, OnlyCall, LibraryPart}
 use Rattle.c_prog.specs.declared.act.Act.{Act}
 use Rattle.c_prog.specs.declared.act.Act.TheVariants as act
 use Rattle.c_prog.specs.declared.act.CallForm.{CallForm}
@@ -114,6 +114,10 @@ library_of names scope (Lock at before amp m after) = act.Lock (record { number 
 library_of names scope (Unlock at before amp m after) = act.Unlock (record { number = global_number (use_of names scope m.text) })
 library_of names scope (Print at before text more after) = act.Print text.bytes (exprs_of names scope (map (λ y. y.1) more))
 library_of names scope (Scan at before text comma amp t after) = act.Scan (target_of names scope t)
+library_of names scope (Wait at before amp1 c comma amp2 m after) =
+    act.Wait (record { number = global_number (use_of names scope c.text) }) (record { number = global_number (use_of names scope m.text) })
+library_of names scope (Signal at before amp c after) = act.Signal (record { number = global_number (use_of names scope c.text) })
+library_of names scope (Broadcast at before amp c after) = act.Broadcast (record { number = global_number (use_of names scope c.text) })
 
 -- a simple statement that is no declaration
 abbrev pub simple_of : Names → Scope → Simple → Act

@@ -89,4 +89,5 @@ look_top (Some (look.Word w.Int)) = true
 look_top (Some (look.Word w.Void)) = true
 look_top (Some (look.Word w.Thread)) = true
 look_top (Some (look.Word w.Mutex)) = true
+look_top (Some (look.Word w.Cond)) = true
 look_top _ = false

@@ -16,7 +16,7 @@ use Rattle.c_raw.specs.declared.decl.Qualifier.TheVariants as qualifier
 use Rattle.c_raw.specs.Decls.{qualifier_view}
 use Rattle.c_cursor.specs.declared.look.Look.{Look}
 use Rattle.c_cursor.specs.declared.look.Look.TheVariants as look
-use Rattle.c_parse.specs.Globals.{read_holds_at, read_mutexes_at}
+use Rattle.c_parse.specs.Globals.{read_holds_at, read_mutexes_at, read_conds_at}
 
 abbrev pub look_qualifier : Look → Option Qualifier
 look_qualifier (look.Word w.Static) = Some qualifier.Static
@@ -60,11 +60,12 @@ abbrev pub with_globals : read.Qualifiers → d.Globals × Spot → g.Top
 with_globals q x = g.Variables q x.0 x.1
 
 abbrev pub last_from : read.Qualifiers → List Token → Out Token g.Top
-last_from q ts = either (read.heads_allowed q) (either (begins (is_word w.Mutex) ts) (map_out (with_globals q) (read_mutexes_at ts)) (void_from (read.static_of q) ts)) (map_out (with_globals q) (read_mutexes_at ts))
+last_from q ts = either (read.heads_allowed q) (either (begins (is_word w.Void) ts) (void_from (read.static_of q) ts) (map_out (with_globals q) (read_conds_at ts))) (map_out (with_globals q) (read_conds_at ts))
 
 -- behind the qualifiers
 abbrev pub behind_qualifiers : read.Qualifiers → List Token → Out Token g.Top
-behind_qualifiers q ts = either (begins (is_word w.Int) ts) (int_from q ts) (either (begins (is_word w.Thread) ts) (map_out (with_globals q) (read_holds_at ts)) (last_from q ts))
+behind_qualifiers q ts = either (begins (is_word w.Int) ts) (int_from q ts)
+    (either (begins (is_word w.Thread) ts) (map_out (with_globals q) (read_holds_at ts)) (either (begins (is_word w.Mutex) ts) (map_out (with_globals q) (read_mutexes_at ts)) (last_from q ts)))
 
 abbrev pub declared_at : List Token → Out Token g.Top
 declared_at ts = next (read.read_qualifiers ts) behind_qualifiers

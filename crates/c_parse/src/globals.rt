@@ -3,16 +3,16 @@ ghost use Rattle.std.specs.Prelude.{◌≡◌, drop};
 ghost use Rattle.c_grammar.specs.Reader.{maybe_read};
 ghost use Rattle.c_grammar.specs.Read.{is_sign, read_sign, commas};
 ghost use Rattle.c_grammar.specs.declared.sign.Sign.TheVariants as s;
-ghost use Rattle.c_grammar.specs.ReadDecl.{global_int_from, read_global_tail, read_global_int, read_global_mutex};
+ghost use Rattle.c_grammar.specs.ReadDecl.{global_int_from, read_global_tail, read_global_int, read_global_mutex, read_global_cond};
 ghost use Rattle.c_grammar.specs.ReadFile.{read_globals_tail};
 ghost use Rattle.c_raw.specs.Tokens.{ident_view};
-ghost use Rattle.c_raw.specs.Decls.{global_int_view, more_global_ints_view, global_mutex_view, more_global_mutexes_view};
+ghost use Rattle.c_raw.specs.Decls.{global_int_view, more_global_ints_view, global_mutex_view, more_global_mutexes_view, global_cond_view, more_global_conds_view};
 ghost use Rattle.c_cursor.specs.Gives.{Gives};
-ghost use Rattle.c_parse.specs.Globals.{declared_view, next_int_view, next_int, next_mutex_view, next_mutex, ints_tail_view, globals_view_of, read_holds_at, read_mutexes_at};
+ghost use Rattle.c_parse.specs.Globals.{declared_view, next_int_view, next_int, next_mutex_view, next_mutex, next_cond_view, next_cond, ints_tail_view, globals_view_of, read_holds_at, read_mutexes_at, read_conds_at};
 
 use c_cursor::{Cursor, ReadFault};
 use c_grammar::{Sign, Word};
-use c_raw::{GlobalInt, GlobalMutex, Globals, Ident, Size};
+use c_raw::{GlobalCond, GlobalInt, GlobalMutex, Globals, Ident, Size};
 use c_stmt::{Length, hold_of, length_of, more_holds_of, size_of};
 use cfix_base::{List, Spot};
 use std::alloc::Global;
@@ -211,6 +211,57 @@ fn more_mutexes_of(
     Ok((more, place))
 }
 
+fn cond_of(cursor: &Cursor<'_>, alloc: Global, at: usize) -> Result<(GlobalCond, usize), ReadFault>
+    ensures { Gives global_cond_view cursor.now.tokens result (read_global_cond (drop at cursor.now.tokens)) }
+{
+    let (name, at) = cursor.ident(alloc, at)?;
+    if !cursor.is_sign(Sign::Assign, at) {
+        return Ok((GlobalCond::OneCond(name), at));
+    }
+    let (set, at) = cursor.sign(Sign::Assign, at)?;
+    let (value, at) = cursor.word(Word::CondInitializer, at)?;
+    Ok((
+        GlobalCond::SetCond {
+            name,
+            at: set,
+            value,
+        },
+        at,
+    ))
+}
+
+fn next_cond_of(
+    cursor: &Cursor<'_>,
+    alloc: Global,
+    at: usize,
+) -> Result<((Spot, GlobalCond), usize), ReadFault>
+    ensures { Gives next_cond_view cursor.now.tokens result (next_cond (drop at cursor.now.tokens)) }
+{
+    let (comma, at) = cursor.sign(Sign::Comma, at)?;
+    let (cond, at) = cond_of(cursor, alloc, at)?;
+    Ok(((comma, cond), at))
+}
+
+fn more_conds_of(
+    cursor: &Cursor<'_>,
+    alloc: Global,
+    at: usize,
+) -> Result<(List<(Spot, GlobalCond)>, usize), ReadFault>
+    ensures { Gives more_global_conds_view cursor.now.tokens result (commas read_global_cond (drop at cursor.now.tokens)) }
+{
+    let mut more = List::new(alloc);
+    let mut place = at;
+    'conds: for _ in 0..cursor.left(at) {
+        if !cursor.is_sign(Sign::Comma, place) {
+            return Ok((more, place));
+        }
+        let (next, after) = next_cond_of(cursor, alloc, place)?;
+        more.push(next)?;
+        place = after;
+    }
+    Ok((more, place))
+}
+
 /// Global threads, with the semicolon.
 pub(crate) fn holds_of(
     cursor: &Cursor<'_>,
@@ -244,6 +295,26 @@ pub(crate) fn mutexes_of(
     let (more, at) = more_mutexes_of(cursor, alloc, at)?;
     let (end, at) = cursor.sign(Sign::Semicolon, at)?;
     let globals = Globals::Mutexes {
+        at: word,
+        first,
+        more,
+    };
+    Ok(((globals, end), at))
+}
+
+/// Global condition variables, with the semicolon.
+pub(crate) fn conds_of(
+    cursor: &Cursor<'_>,
+    alloc: Global,
+    at: usize,
+) -> Result<((Globals, Spot), usize), ReadFault>
+    ensures { Gives globals_view_of cursor.now.tokens result (read_conds_at (drop at cursor.now.tokens)) }
+{
+    let (word, at) = cursor.word(Word::Cond, at)?;
+    let (first, at) = cond_of(cursor, alloc, at)?;
+    let (more, at) = more_conds_of(cursor, alloc, at)?;
+    let (end, at) = cursor.sign(Sign::Semicolon, at)?;
+    let globals = Globals::Conds {
         at: word,
         first,
         more,

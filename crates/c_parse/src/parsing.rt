@@ -31,6 +31,7 @@ fn is_top_look(look: Option<Look>) -> bool
                         | Word::Void
                         | Word::Thread
                         | Word::Mutex
+                        | Word::Cond
                 )
         )
     )

@@ -10,7 +10,7 @@ ghost use Rattle.c_expr.specs.Finds.{Finds};
 ghost use Rattle.c_parse.specs.Tops.{look_qualifier, qualifier_at_view, plain_top, ints_top, thread_top, void_from, int_from, last_from, declared_at};
 
 use crate::directive::directive_of;
-use crate::globals::{global_int, holds_of, ints_tail_of, mutexes_of};
+use crate::globals::{conds_of, global_int, holds_of, ints_tail_of, mutexes_of};
 use crate::head::{ended, head_tail_of, thread_head_of};
 use c_cursor::{Cursor, Look, ReadFault};
 use c_grammar::{Sign, Word};
@@ -224,12 +224,12 @@ fn last_top_of(
     ensures { Gives top_view cursor.now.tokens result (last_from (qualifiers_view qualifiers) (drop at cursor.now.tokens)) }
 {
     if heads_allowed(&qualifiers) {
-        if !cursor.is_word(Word::Mutex, at) {
+        if cursor.is_word(Word::Void, at) {
             let (top, at) = void_top_of(cursor, alloc, static_of(&qualifiers), at)?;
             return Ok((top, at));
         }
     }
-    let ((globals, end), at) = mutexes_of(cursor, alloc, at)?;
+    let ((globals, end), at) = conds_of(cursor, alloc, at)?;
     Ok((variables(alloc, qualifiers, globals, end)?, at))
 }
 
@@ -243,6 +243,10 @@ fn declared_top_of(cursor: &Cursor<'_>, alloc: Global, at: usize) -> Result<(Top
     }
     if cursor.is_word(Word::Thread, at) {
         let ((globals, end), at) = holds_of(cursor, alloc, at)?;
+        return Ok((variables(alloc, qualifiers, globals, end)?, at));
+    }
+    if cursor.is_word(Word::Mutex, at) {
+        let ((globals, end), at) = mutexes_of(cursor, alloc, at)?;
         return Ok((variables(alloc, qualifiers, globals, end)?, at));
     }
     let (top, at) = last_top_of(cursor, alloc, qualifiers, at)?;

@@ -8,6 +8,15 @@ use Rattle.c_print.proofs.Indented.{at-cons, at-only, behind-cons, at-append, at
 pub two-pieces : (before a b between last : List ℕ) → between ≡ before ++ a → last ≡ between ++ b → last ≡ before ++ (a ++ b)
 two-pieces before a b between last p q = q ∙ ap (λ t. t ++ b) p ∙ append_assoc before a b
 
+-- two names among three texts
+pub names-written : (before front first between second end start middle last : List ℕ)
+    → start ≡ before ++ front → middle ≡ start ++ first → last ≡ middle ++ (between ++ second ++ end)
+    → last ≡ before ++ (front ++ first ++ between ++ second ++ end)
+names-written before front first between second end start middle last p q r =
+    two-pieces before (front ++ first) (between ++ second ++ end) middle last (two-pieces before front first start middle p q) r
+    ∙ ap (λ t. before ++ t) (sym (append_assoc (front ++ first) (between ++ second) end))
+    ∙ ap (λ t. before ++ (t ++ end)) (sym (append_assoc (front ++ first) between second))
+
 pub line-written : (before first second third last indent line : List ℕ) (more : List (List ℕ))
     → first ≡ before ++ indent → second ≡ first ++ line → third ≡ second ++ codes ";\n" → last ≡ third ++ at indent more
     → last ≡ before ++ at indent (ended line ∷ more)

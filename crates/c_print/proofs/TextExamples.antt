@@ -198,18 +198,20 @@ classic = simp (expr_text, target_text, thread_argument, zero-Number, part-Simpl
 kinds : canonical (record {
   globals = record { name = codes "one"; kind = of_kind.Int (negsuc 0) } ∷ record { name = codes "data"; kind = of_kind.IntArray 4 } ∷
       record { name = codes "t"; kind = of_kind.Thread } ∷ record { name = codes "ts"; kind = of_kind.ThreadArray 2 } ∷
-      record { name = codes "m"; kind = of_kind.Mutex } ∷ [];
+      record { name = codes "m"; kind = of_kind.Mutex } ∷ record { name = codes "c"; kind = of_kind.Cond } ∷ [];
   functions = record {
     name = codes "f";
     kind = gives.Void;
     params = codes "a" ∷ codes "b" ∷ [];
     start = [];
     body = stmt.Loop (bare (expr.Number (pos 1))) None (simple (act.Declare (codes "c") kind.Int (Some (value.Expr (expr.Read (thread 1))))) ∷ []) ∷
-        simple (act.Declare (codes "d") (kind.IntArray 3) None) ∷ simple (act.Down (thread 3)) ∷ simple (act.Lock (record { number = 4 })) ∷ [];
+        simple (act.Declare (codes "d") (kind.IntArray 3) None) ∷ simple (act.Down (thread 3)) ∷ simple (act.Lock (record { number = 4 })) ∷
+        simple (act.Wait (record { number = 5 }) (record { number = 4 })) ∷ simple (act.Signal (record { number = 5 })) ∷
+        simple (act.Broadcast (record { number = 5 })) ∷ [];
   } ∷ record { name = codes "main"; kind = gives.Int; params = []; start = []; body = [] } ∷ [];
   starts = record { number = 0 } ∷ record { number = 12 } ∷ [];
 })
-    ≡ codes "#include <pthread.h>\n#include <stdio.h>\n#define CFIX_START_0 1\n#define CFIX_START_12 1\n#include \"cfix.h\"\n\nint one = -1;\nint data[4];\npthread_t t;\npthread_t ts[2];\npthread_mutex_t m = PTHREAD_MUTEX_INITIALIZER;\n\nvoid f(int a, int b);\n\nvoid f(int a, int b) {\n    while (1) {\n        int c = b;\n    }\n    int d[3];\n    d--;\n    pthread_mutex_lock(&m);\n}\n\nint main(void) {\n}\n"
+    ≡ codes "#include <pthread.h>\n#include <stdio.h>\n#define CFIX_START_0 1\n#define CFIX_START_12 1\n#include \"cfix.h\"\n\nint one = -1;\nint data[4];\npthread_t t;\npthread_t ts[2];\npthread_mutex_t m = PTHREAD_MUTEX_INITIALIZER;\npthread_cond_t c = PTHREAD_COND_INITIALIZER;\n\nvoid f(int a, int b);\n\nvoid f(int a, int b) {\n    while (1) {\n        int c = b;\n    }\n    int d[3];\n    d--;\n    pthread_mutex_lock(&m);\n    pthread_cond_wait(&c, &m);\n    pthread_cond_signal(&c);\n    pthread_cond_broadcast(&c);\n}\n\nint main(void) {\n}\n"
 unfolding canonical digits thread simple bare
 kinds = simp (expr_text, target_text, part-Simple, part-Loop, names-Simple, names-Loop, printed-Read, printed-Number, printed-variable) refl
 

@@ -171,19 +171,33 @@ fn add_around(
     add(text, end)
 }
 
-/// Adds a mutex behind a text, and a parenthesis.
-fn add_mutex(
+/// Adds a mutex or a condition variable behind a text, and a parenthesis.
+fn add_global(
     text: &mut Vec<u8>,
     names: &NameTable,
     front: &[u8],
-    mutex: VarId,
+    var: VarId,
 ) -> Result<(), NoMemory>
     ensures { OnOk result (text.new.items
-        ≡ text.old.items ++ (front.now ++ name_at names.now.globals mutex.number ++ codes ")")) }
+        ≡ text.old.items ++ (front.now ++ name_at names.now.globals var.number ++ codes ")")) }
 {
     add(text, front)?;
-    add_name(text, names.globals.as_slice(), mutex.number)?;
+    add_name(text, names.globals.as_slice(), var.number)?;
     add(text, b")")
+}
+
+fn add_wait(
+    text: &mut Vec<u8>,
+    names: &NameTable,
+    cond: VarId,
+    mutex: VarId,
+) -> Result<(), NoMemory>
+    ensures { OnOk result (text.new.items ≡ text.old.items ++ act_text (named names.now) (Act.Wait cond mutex)) }
+{
+    add(text, b"pthread_cond_wait(&")?;
+    add_name(text, names.globals.as_slice(), cond.number)?;
+    add_global(text, names, b", &", mutex)?;
+    Ok(())
 }
 
 fn add_print(
@@ -222,9 +236,12 @@ pub fn add_act(text: &mut Vec<u8>, names: &NameTable, act: &Act) -> Result<(), N
         Act::Call(call) => add_call(text, names, call),
         Act::Create { target, of, arg } => add_create(text, names, target, *of, arg),
         Act::Join(target) => add_around(text, names, b"pthread_join(", target, b", NULL)"),
-        Act::Lock(mutex) => add_mutex(text, names, b"pthread_mutex_lock(&", *mutex),
-        Act::Unlock(mutex) => add_mutex(text, names, b"pthread_mutex_unlock(&", *mutex),
+        Act::Lock(mutex) => add_global(text, names, b"pthread_mutex_lock(&", *mutex),
+        Act::Unlock(mutex) => add_global(text, names, b"pthread_mutex_unlock(&", *mutex),
         Act::Print { text: format, args } => add_print(text, names, format, args),
         Act::Scan(target) => add_around(text, names, b"scanf(\"%d\", &", target, b")"),
+        Act::Wait { cond, mutex } => add_wait(text, names, *cond, *mutex),
+        Act::Signal(cond) => add_global(text, names, b"pthread_cond_signal(&", *cond),
+        Act::Broadcast(cond) => add_global(text, names, b"pthread_cond_broadcast(&", *cond),
     }
 }

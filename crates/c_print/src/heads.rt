@@ -57,6 +57,15 @@ pub fn add_header(text: &mut Vec<u8>, patched: bool, starts: &[OrderId]) -> Resu
     Ok(())
 }
 
+/// Adds a name between two texts.
+fn add_around(text: &mut Vec<u8>, front: &[u8], name: &[u8], end: &[u8]) -> Result<(), NoMemory>
+    ensures { OnOk result (text.new.items ≡ text.old.items ++ (front.now ++ name.now ++ end.now)) }
+{
+    add(text, front)?;
+    add(text, name)?;
+    add(text, end)
+}
+
 fn add_global_text(text: &mut Vec<u8>, name: &[u8], kind: GlobalKind) -> Result<(), NoMemory>
     ensures { OnOk result (text.new.items ≡ text.old.items ++ global_text name.now kind) }
 {
@@ -82,10 +91,19 @@ fn add_global_text(text: &mut Vec<u8>, name: &[u8], kind: GlobalKind) -> Result<
             add(text, name)?;
             add_length(text, length)
         }
-        GlobalKind::Mutex => {
-            add(text, b"pthread_mutex_t ")?;
-            add(text, name)?;
-            add(text, b" = PTHREAD_MUTEX_INITIALIZER")
+        GlobalKind::Mutex => add_around(
+            text,
+            b"pthread_mutex_t ",
+            name,
+            b" = PTHREAD_MUTEX_INITIALIZER",
+        ),
+        GlobalKind::Cond => {
+            add_around(
+                text,
+                b"pthread_cond_t ",
+                name,
+                b" = PTHREAD_COND_INITIALIZER",
+            )
         }
     }
 }

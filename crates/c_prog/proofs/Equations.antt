@@ -1,6 +1,7 @@
 -- What the definitions over trees give, variant by variant. A fold does not compute in a proof:
 -- cite these.
 use Rattle.std.proofs.Common.{◌≡◌, ℕ, ℤ, ◌+◌, Bool, not, ◌||◌, List, [], ◌∷◌, ◌++◌, Option, Some, None, ap, sym, ◌∙◌, refl}
+use Rattle.cfix_base.specs.declared.mark.Marks.{Marks}
 use Rattle.cfix_base.specs.declared.op.Op.{Op}
 use Rattle.cfix_base.specs.declared.access.Access.TheVariants.{Read}
 use Rattle.c_prog.specs.declared.access_item.Touch.{Touch}
@@ -20,6 +21,7 @@ use Rattle.c_prog.specs.declared.stmt.Stmt.TheVariants as stmt
 use Rattle.c_prog.specs.declared.stmt.Stmt.TheOpen.{Stmt-F}
 use Rattle.c_prog.specs.declared.stmt.Stmt.TheFolds.{fold-roll-Stmt}
 use Rattle.c_prog.specs.Accesses.{expr_accesses, read_accesses, index_accesses, touched, marked, stops_early, expr_level, target_level}
+use Rattle.c_prog.specs.Marks.{old_ops}
 use Rattle.c_prog.specs.Nodes.{nodes, nodes_of, nodes_level, step_nodes}
 use Rattle.c_prog.specs.Order.{Node, act, cond, jump, order, order_of, order_level, step_order}
 use Rattle.c_prog.specs.Patched.{patched, patched_of, patched_level, has_some, cond_patched, step_patched}
@@ -59,23 +61,23 @@ order-Loop c s body = ap order (sym (stmt.rolls-Loop c s body)) ∙ fold-roll-St
 pub order-Block : (body : List Stmt) → order (stmt.Block body) ≡ order_of body
 order-Block body = ap order (sym (stmt.rolls-Block body)) ∙ fold-roll-Stmt (List Node) order_level (Stmt-F.Block body)
 
-pub strip-Simple : (a : Act) (after : List Op) → strip (stmt.Simple a after) ≡ stmt.Simple a []
-strip-Simple a after = ap strip (sym (stmt.rolls-Simple a after)) ∙ fold-roll-Stmt Stmt strip_level (Stmt-F.Simple a after)
+pub strip-Simple : (m : Marks) (a : Act) (after : List Op) → strip m (stmt.Simple a after) ≡ stmt.Simple a (old_ops m after)
+strip-Simple m a after = ap (strip m) (sym (stmt.rolls-Simple a after)) ∙ fold-roll-Stmt Stmt (strip_level m) (Stmt-F.Simple a after)
 
-pub strip-Jump : (j : Jump) (after : List Op) → strip (stmt.Jump j after) ≡ stmt.Jump j []
-strip-Jump j after = ap strip (sym (stmt.rolls-Jump j after)) ∙ fold-roll-Stmt Stmt strip_level (Stmt-F.Jump j after)
+pub strip-Jump : (m : Marks) (j : Jump) (after : List Op) → strip m (stmt.Jump j after) ≡ stmt.Jump j (old_ops m after)
+strip-Jump m j after = ap (strip m) (sym (stmt.rolls-Jump j after)) ∙ fold-roll-Stmt Stmt (strip_level m) (Stmt-F.Jump j after)
 
-pub strip-If : (c : Cond) (as_true as_false : List Stmt)
-    → strip (stmt.If c as_true as_false) ≡ stmt.If (strip_cond c) (strip_all as_true) (strip_all as_false)
-strip-If c as_true as_false =
-    ap strip (sym (stmt.rolls-If c as_true as_false)) ∙ fold-roll-Stmt Stmt strip_level (Stmt-F.If c as_true as_false)
+pub strip-If : (m : Marks) (c : Cond) (as_true as_false : List Stmt)
+    → strip m (stmt.If c as_true as_false) ≡ stmt.If (strip_cond m c) (strip_all m as_true) (strip_all m as_false)
+strip-If m c as_true as_false =
+    ap (strip m) (sym (stmt.rolls-If c as_true as_false)) ∙ fold-roll-Stmt Stmt (strip_level m) (Stmt-F.If c as_true as_false)
 
-pub strip-Loop : (c : Cond) (s : Option Step) (body : List Stmt)
-    → strip (stmt.Loop c s body) ≡ stmt.Loop (strip_cond c) (strip_step s) (strip_all body)
-strip-Loop c s body = ap strip (sym (stmt.rolls-Loop c s body)) ∙ fold-roll-Stmt Stmt strip_level (Stmt-F.Loop c s body)
+pub strip-Loop : (m : Marks) (c : Cond) (s : Option Step) (body : List Stmt)
+    → strip m (stmt.Loop c s body) ≡ stmt.Loop (strip_cond m c) (strip_step m s) (strip_all m body)
+strip-Loop m c s body = ap (strip m) (sym (stmt.rolls-Loop c s body)) ∙ fold-roll-Stmt Stmt (strip_level m) (Stmt-F.Loop c s body)
 
-pub strip-Block : (body : List Stmt) → strip (stmt.Block body) ≡ stmt.Block (strip_all body)
-strip-Block body = ap strip (sym (stmt.rolls-Block body)) ∙ fold-roll-Stmt Stmt strip_level (Stmt-F.Block body)
+pub strip-Block : (m : Marks) (body : List Stmt) → strip m (stmt.Block body) ≡ stmt.Block (strip_all m body)
+strip-Block m body = ap (strip m) (sym (stmt.rolls-Block body)) ∙ fold-roll-Stmt Stmt (strip_level m) (Stmt-F.Block body)
 
 pub patched-Simple : (a : Act) (after : List Op) → patched (stmt.Simple a after) ≡ has_some after
 patched-Simple a after = ap patched (sym (stmt.rolls-Simple a after)) ∙ fold-roll-Stmt Bool patched_level (Stmt-F.Simple a after)

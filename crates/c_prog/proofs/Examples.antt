@@ -1,6 +1,8 @@
 -- Small trees, computed by the definitions.
-use Rattle.std.proofs.Common.{◌≡◌, ℕ, List, [], ◌∷◌, Some, None, Bool, true, false, refl}
+use Rattle.std.proofs.Common.{◌≡◌, ℕ, List, [], ◌∷◌, map, Some, None, Bool, true, false, refl}
+use Rattle.cfix_base.specs.declared.mark.Marks.{Marks}
 use Rattle.cfix_base.specs.declared.op.Op.{Op}
+use Rattle.cfix_base.specs.declared.op.Op.TheVariants as ops
 use Rattle.cfix_base.specs.declared.access.Access.{Access}
 use Rattle.cfix_base.specs.declared.access.Access.TheVariants as access
 use Rattle.c_prog.specs.declared.access_item.Touch.{Touch}
@@ -12,6 +14,7 @@ use Rattle.c_prog.specs.declared.expr.BinOp.TheVariants as op
 use Rattle.c_prog.specs.declared.expr.Expr.TheVariants as expr
 use Rattle.c_prog.specs.declared.expr.Target.{Target}
 use Rattle.c_prog.specs.declared.expr.Var.TheVariants as var
+use Rattle.c_prog.specs.declared.function.FnKind.TheVariants as fn_kind
 use Rattle.c_prog.specs.declared.stmt.Cond.{Cond}
 use Rattle.c_prog.specs.declared.stmt.Jump.TheVariants as jump
 use Rattle.c_prog.specs.declared.stmt.Stmt.{Stmt}
@@ -20,7 +23,9 @@ use Rattle.c_prog.specs.Accesses.{act_accesses}
 use Rattle.c_prog.specs.Nodes.{nodes}
 use Rattle.c_prog.specs.Order.{Node, order}
 use Rattle.c_prog.specs.Order as node
-use Rattle.c_prog.specs.Strip.{strip}
+use Rattle.c_prog.specs.declared.tree.Tree.{Tree}
+use Rattle.c_prog.specs.Marks.{old_ops, tree_marks}
+use Rattle.c_prog.specs.Strip.{strip, strip_tree}
 use Rattle.c_prog.proofs.Equations.{nodes-Simple, nodes-Jump, nodes-If, nodes-Loop, order-Simple, order-Jump, order-If, order-Loop, accesses-Read, accesses-Binary, read-is, strip-Loop, strip-Simple}
 
 -- the global variable with this number, and an access to it
@@ -55,7 +60,37 @@ compound-accesses : act_accesses compound
 unfolding compound variable touch
 compound-accesses = simp (accesses-Read, accesses-Binary, read-is) refl
 
--- while (x) lock; keeps its shape without its operations
-strip-while : (c : Cond) (after : List Op) → strip (stmt.Loop c None (stmt.Simple (act.Lock (record { number = 0 })) after ∷ []))
-    ≡ stmt.Loop (record { test = c.test; on_true = []; on_false = [] }) None (stmt.Simple (act.Lock (record { number = 0 })) [] ∷ [])
-strip-while c after = simp (strip-Loop, strip-Simple) refl
+-- while (x) lock; keeps its shape without its new operations
+strip-while : (m : Marks) (c : Cond) (after : List Op) → strip m (stmt.Loop c None (stmt.Simple (act.Lock (record { number = 0 })) after ∷ []))
+    ≡ stmt.Loop (record { test = c.test; on_true = old_ops m c.on_true; on_false = old_ops m c.on_false }) None (stmt.Simple (act.Lock (record { number = 0 })) (old_ops m after) ∷ [])
+strip-while m c after = simp (strip-Loop, strip-Simple) refl
+
+-- operations of locks and orders, rising, and those that are below the marks
+abbrev mixed : List Op
+mixed =
+    ops.Leave (record { number = 0 }) ∷ ops.First (record { number = 1 }) ∷ ops.Done (record { number = 4 }) ∷ ops.Wait (record { number = 0 })
+    ∷ ops.Enter (record { number = 2 }) ∷ ops.Add (record { number = 2 }) ∷ []
+
+below-marks : old_ops (record { lock = 2; order = 2 }) mixed
+    ≡ ops.Leave (record { number = 0 }) ∷ ops.First (record { number = 1 }) ∷ ops.Wait (record { number = 0 }) ∷ []
+below-marks = refl
+
+-- the marks of a program: main with these operations, and an order that begins with a token
+abbrev marked_program : List Op → List ℕ → Tree
+marked_program start tokens = record {
+  globals = [];
+  functions = record { name = []; kind = fn_kind.Int; params = []; start = start; body = [] } ∷ [];
+  starts = map (λ n. record { number = n }) tokens;
+}
+
+marks-of-operations : tree_marks (marked_program mixed []) ≡ record { lock = 3; order = 5 }
+marks-of-operations = refl
+
+marks-of-starts : tree_marks (marked_program mixed (2 ∷ 7 ∷ [])) ≡ record { lock = 3; order = 8 }
+marks-of-starts = refl
+
+no-marks : tree_marks (marked_program [] []) ≡ record { lock = 0; order = 0 }
+no-marks = refl
+
+old-starts : (strip_tree (record { lock = 0; order = 7 }) (marked_program mixed (2 ∷ 7 ∷ []))).starts ≡ record { number = 2 } ∷ []
+old-starts = refl

@@ -7,10 +7,13 @@ pub mod NodeLaws
 pub mod LinesRise
 pub mod Searches
 pub mod KeyOrders
-pub mod Marks
+pub mod Certain
 pub mod ValidEquations
 pub mod ValidExamples
 pub mod StripFolds
+pub mod Fuses
+pub mod AllOps
+pub mod Greatest
 pub mod ValidStrip
 pub mod StraightEquations
 pub mod StraightBody

@@ -7,7 +7,7 @@ use Rattle.std.proofs.lemmas.Grind.{common_steps}
 use Rattle.cfix_base.specs.declared.op.Op.{Op}
 use Rattle.c_prog.specs.declared.access_item.Touch.{Touch}
 use Rattle.c_prog.specs.declared.act.Act.{Act}
-use Rattle.c_prog.specs.declared.act.Act.TheVariants.{Declare, Assign, Up, Down, Call, Create, Join, Lock, Unlock, Print, Scan}
+use Rattle.c_prog.specs.declared.act.Act.TheVariants.{Declare, Assign, Up, Down, Call, Create, Join, Lock, Unlock, Print, Scan, Wait, Signal, Broadcast}
 use Rattle.c_prog.specs.declared.act.How.TheVariants.{Set, Add, Sub, Mul, Div, Rem}
 use Rattle.c_prog.specs.declared.act.Value.TheVariants as value
 use Rattle.c_prog.specs.declared.expr.Expr.{Expr}
@@ -67,6 +67,7 @@ kind-seen count g h = by g.kind h
     by global_kind.Thread h = cc
     by (global_kind.ThreadArray n) h = cc
     by global_kind.Mutex h = cc
+    by global_kind.Cond h = cc
 
 seen : (count : ℕ) (globals : List global_struct.Global) → Zeros globals → (n : ℕ) → is_some (slice_get globals n) ≡ true
     → global_seen (bare count) (slice_get globals n) ≡ Some int
@@ -189,6 +190,9 @@ module _ (file : File) (zeros : Zeros file.globals) where
   plain (Unlock m) h = cc
   plain (Print text args) h = cc
   plain (Scan t) h = cc
+  plain (Wait c m) h = cc
+  plain (Signal c) h = cc
+  plain (Broadcast c) h = cc
 
   -- A straight-line statement, opened.
   record Opened (s : Stmt) : Type 0 where

@@ -122,11 +122,12 @@ one = function (codes "one") fn_kind.Int [] (returned (number 1) ∷ [])
 abbrev main : List Stmt → Function
 main body = function (codes "main") fn_kind.Int [] body
 
--- globals 0 to 3: `int x;`, `int a[3];`, `pthread_t t;` and `pthread_mutex_t m;`
+-- globals 0 to 4: `int x;`, `int a[3];`, `pthread_t t;`, `pthread_mutex_t m;` and `pthread_cond_t c;`
 abbrev globals : List Global
 globals =
     record { name = codes "x"; kind = global_kind.Int (pos 0) } ∷ record { name = codes "a"; kind = global_kind.IntArray 3 }
-    ∷ record { name = codes "t"; kind = global_kind.Thread } ∷ record { name = codes "m"; kind = global_kind.Mutex } ∷ []
+    ∷ record { name = codes "t"; kind = global_kind.Thread } ∷ record { name = codes "m"; kind = global_kind.Mutex }
+    ∷ record { name = codes "c"; kind = global_kind.Cond } ∷ []
 
 abbrev tree : List Function → Tree
 tree functions = record { globals = globals; functions = functions; starts = [] }
@@ -174,6 +175,12 @@ uses : body
     ∷ plain (act.Unlock (record { number = 3 })) ∷ plain (act.Scan (element 1 (value_of 0))) ∷ []) ≡ true
 uses = simp valid_steps refl
 
+-- pthread_cond_wait(&c, &m); pthread_cond_signal(&c); pthread_cond_broadcast(&c);
+waits : body
+    (plain (act.Wait (record { number = 4 }) (record { number = 3 })) ∷ plain (act.Signal (record { number = 4 }))
+    ∷ plain (act.Broadcast (record { number = 4 })) ∷ []) ≡ true
+waits = simp valid_steps refl
+
 -- Numbers, variables and indices.
 numbers : body (set (global 0) (expr.Number (negsuc 0)) ∷ []) ≡ false  -- x = the number -1
 numbers = simp valid_steps refl
@@ -181,7 +188,7 @@ numbers = simp valid_steps refl
 too_great : body (set (global 0) (number 2147483648) ∷ []) ≡ false
 too_great = simp valid_steps refl
 
-unknown_global : body (plain (act.Up (global 4)) ∷ []) ≡ false
+unknown_global : body (plain (act.Up (global 5)) ∷ []) ≡ false
 unknown_global = simp valid_steps refl
 
 unknown_local : body (plain (act.Up (local 0)) ∷ []) ≡ false
@@ -198,6 +205,9 @@ thread_read = simp valid_steps refl
 
 mutex_read : body (set (global 0) (value_of 3) ∷ []) ≡ false  -- x = m
 mutex_read = simp valid_steps refl
+
+cond_read : body (set (global 0) (value_of 4) ∷ []) ≡ false  -- x = c
+cond_read = simp valid_steps refl
 
 bad_index : body (plain (act.Up (element 1 (value_of 2))) ∷ []) ≡ false  -- a[t]++
 bad_index = simp valid_steps refl
@@ -233,6 +243,9 @@ hidden_function = simp valid_steps refl
 
 hidden_mutex : body (declare (codes "m") ∷ plain (act.Lock (record { number = 3 })) ∷ []) ≡ false
 hidden_mutex = simp valid_steps refl
+
+hidden_cond : body (declare (codes "c") ∷ plain (act.Signal (record { number = 4 })) ∷ []) ≡ false
+hidden_cond = simp valid_steps refl
 
 word_name : body (declare (codes "while") ∷ []) ≡ false
 word_name = simp valid_steps refl
@@ -285,6 +298,21 @@ joined_int = simp valid_steps refl
 
 locked_int : body (plain (act.Lock (record { number = 0 })) ∷ []) ≡ false
 locked_int = simp valid_steps refl
+
+locked_cond : body (plain (act.Lock (record { number = 4 })) ∷ []) ≡ false
+locked_cond = simp valid_steps refl
+
+wait_on_mutex : body (plain (act.Wait (record { number = 3 }) (record { number = 3 })) ∷ []) ≡ false
+wait_on_mutex = simp valid_steps refl
+
+wait_without_mutex : body (plain (act.Wait (record { number = 4 }) (record { number = 4 })) ∷ []) ≡ false
+wait_without_mutex = simp valid_steps refl
+
+signalled_mutex : body (plain (act.Signal (record { number = 3 })) ∷ []) ≡ false
+signalled_mutex = simp valid_steps refl
+
+broadcast_int : body (plain (act.Broadcast (record { number = 0 })) ∷ []) ≡ false
+broadcast_int = simp valid_steps refl
 
 scanned_thread : body (plain (act.Scan (global 2)) ∷ []) ≡ false
 scanned_thread = simp valid_steps refl
@@ -439,6 +467,6 @@ not_straight : is_straight (tree (one ∷ main [] ∷ [])) ≡ false
 not_straight = refl
 
 no_scalars : map (is_straight_act globals)
-    (act.Up (element 1 (number 0)) ∷ act.Up (local 0) ∷ act.Up (global 4) ∷ act.Down (global 0)
+    (act.Up (element 1 (number 0)) ∷ act.Up (local 0) ∷ act.Up (global 5) ∷ act.Down (global 0)
     ∷ act.Assign (global 0) how.Set (value.Expr (expr.Number (negsuc 0))) ∷ []) ≡ false ∷ false ∷ false ∷ false ∷ false ∷ []
 no_scalars = simp straight-Number refl

@@ -62,6 +62,7 @@ zero-valid (global_kind.IntArray n) h = cc
 zero-valid global_kind.Thread h = cc
 zero-valid (global_kind.ThreadArray n) h = cc
 zero-valid global_kind.Mutex h = cc
+zero-valid global_kind.Cond h = cc
 
 zero-cells : (kind : GlobalKind) → begins_with_zero kind ≡ true → kind_cells kind ≡ 1
 zero-cells (global_kind.Int number) h = refl
@@ -69,6 +70,7 @@ zero-cells (global_kind.IntArray n) h = cc
 zero-cells global_kind.Thread h = cc
 zero-cells (global_kind.ThreadArray n) h = cc
 zero-cells global_kind.Mutex h = cc
+zero-cells global_kind.Cond h = cc
 
 zeros-valid : (globals : List global_struct.Global) → Zeros globals → list_all (λ global. is_valid_global global.kind) globals ≡ true
 zeros-valid [] h = refl

@@ -111,6 +111,9 @@ act_accesses (form.Lock m) = []
 act_accesses (form.Unlock m) = []
 act_accesses (form.Print text args) = args_accesses args
 act_accesses (form.Scan target) = index_accesses target.index ++ touched Write target.var
+act_accesses (form.Wait c m) = []
+act_accesses (form.Signal c) = []
+act_accesses (form.Broadcast c) = []
 
 -- the accesses of a jump
 abbrev pub jump_accesses : Jump → List Touch

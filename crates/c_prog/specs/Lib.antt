@@ -3,6 +3,7 @@ pub mod Order
 pub mod View
 pub mod Places
 pub mod Accesses
+pub mod Marks
 pub mod Strip
 pub mod Patched
 pub mod Valid

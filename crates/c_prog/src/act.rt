@@ -35,7 +35,8 @@ pub enum Value {
     Call(CallForm),
 }
 
-/// What a simple statement, or the step of a `for`, does. `Up` is `x++` and `Down` is `x--`.
+/// What a simple statement, or the step of a `for`, does. `Up` is `x++` and `Down` is `x--`; `Wait`,
+/// `Signal` and `Broadcast` are the calls on a condition variable.
 #[derive(Drop)]
 pub enum Act {
     Declare {
@@ -64,4 +65,10 @@ pub enum Act {
         args: List<Expr>,
     },
     Scan(Target),
+    Wait {
+        cond: VarId,
+        mutex: VarId,
+    },
+    Signal(VarId),
+    Broadcast(VarId),
 }

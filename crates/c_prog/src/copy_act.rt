@@ -50,6 +50,13 @@ pub fn copy_act(alloc: Global, act: &Act) -> Result<Act, NoMemory>
             Ok(Act::Print { text, args })
         }
         Act::Scan(target) => Ok(Act::Scan(copy_target(alloc, target)?)),
+        Act::Wait { cond, mutex } => {
+            let cond = *cond;
+            let mutex = *mutex;
+            Ok(Act::Wait { cond, mutex })
+        }
+        Act::Signal(cond) => Ok(Act::Signal(*cond)),
+        Act::Broadcast(cond) => Ok(Act::Broadcast(*cond)),
     }
 }
 

@@ -1,4 +1,5 @@
 ghost use Rattle.std.specs.Prelude.{◌≡◌, ◌↔◌, false};
+ghost use Rattle.c_prog.specs.Marks.{all_new};
 ghost use Rattle.c_prog.specs.Patched.{has_some, cond_patched, step_patched, patched, patched_of, function_patched, functions_patched, tree_patched};
 ghost use Rattle.c_prog.specs.Strip.{strip_tree};
 
@@ -81,10 +82,10 @@ fn tree_patched(tree: &Tree) -> bool
 }
 
 /// Whether the program has an operation at some place, dead places too, or an order that begins
-/// with a token.
+/// with a token: whether it changes without all those from the marks 0 and 0 on.
 pub fn is_patched(program: &Program) -> bool
     ensures patched { result ≡ tree_patched program.now }
-    ensures changes { (result ≡ false) ↔ (strip_tree program.now ≡ program.now) }
+    ensures changes { (result ≡ false) ↔ (strip_tree all_new program.now ≡ program.now) }
 {
     tree_patched(program.tree())
 }

@@ -62,6 +62,9 @@ pub fn same_act(a: &Act, b: &Act) -> bool
             same_bytes(text, t) && same_args(args.as_slice(), v.as_slice())
         }
         (Act::Scan(s), Act::Scan(t)) => same_target(s, t),
+        (Act::Wait { cond, mutex }, Act::Wait { cond: c, mutex: m }) => *cond == *c && *mutex == *m,
+        (Act::Signal(c), Act::Signal(d)) => *c == *d,
+        (Act::Broadcast(c), Act::Broadcast(d)) => *c == *d,
         _ => false,
     }
 }

@@ -17,7 +17,7 @@ fn right_certain(certain: bool, op: BinOp) -> bool
     certain && !matches!(op, BinOp::And | BinOp::Or)
 }
 
-#[tactic(auto, using(crate::proofs::Marks::marks))]
+#[tactic(auto, using(crate::proofs::Certain::certain_steps))]
 fn add_touch(
     items: &mut List<Touch>,
     access: Access,
@@ -37,7 +37,7 @@ fn add_touch(
 }
 
 #[cycle(expr)]
-#[tactic(auto, using(crate::proofs::Marks::marks))]
+#[tactic(auto, using(crate::proofs::Certain::certain_steps))]
 fn add_expr(items: &mut List<Touch>, expr: &Expr, certain: bool) -> Result<(), NoMemory>
     ensures { OnOk result (items.new ≡ items.old ++ marked certain (expr_accesses expr.now)) }
 {
@@ -53,7 +53,7 @@ fn add_expr(items: &mut List<Touch>, expr: &Expr, certain: bool) -> Result<(), N
 }
 
 #[cycle(expr)]
-#[tactic(auto, using(crate::proofs::Marks::marks))]
+#[tactic(auto, using(crate::proofs::Certain::certain_steps))]
 fn add_read(items: &mut List<Touch>, target: &Target, certain: bool) -> Result<(), NoMemory>
     ensures { OnOk result (items.new ≡ items.old ++ marked certain (read_accesses target.now)) }
 {
@@ -62,7 +62,7 @@ fn add_read(items: &mut List<Touch>, target: &Target, certain: bool) -> Result<(
 }
 
 #[cycle(expr)]
-#[tactic(auto, using(crate::proofs::Marks::marks))]
+#[tactic(auto, using(crate::proofs::Certain::certain_steps))]
 fn add_index(
     items: &mut List<Touch>,
     index: &Option<Boxed<Expr>>,
@@ -112,7 +112,7 @@ fn add_kept(items: &mut List<Touch>, how: How, var: Var) -> Result<(), NoMemory>
     }
 }
 
-#[tactic(auto, using(crate::proofs::Marks::marks))]
+#[tactic(auto, using(crate::proofs::Certain::certain_steps))]
 fn add_act(items: &mut List<Touch>, act: &Act) -> Result<(), NoMemory>
     ensures { OnOk result (items.new ≡ items.old ++ act_accesses act.now) }
 {
@@ -141,6 +141,7 @@ fn add_act(items: &mut List<Touch>, act: &Act) -> Result<(), NoMemory>
             add_index(items, &target.index, true)?;
             add_touch(items, Access::Write, target.var, true)
         }
+        Act::Wait { .. } | Act::Signal(_) | Act::Broadcast(_) => Ok(()),
     }
 }
 

@@ -15,6 +15,8 @@ use Rattle.c_raw.specs.declared.decl.GlobalInt.{GlobalInt}
 use Rattle.c_raw.specs.declared.decl.GlobalInt.TheVariants as global
 use Rattle.c_raw.specs.declared.decl.GlobalMutex.{GlobalMutex}
 use Rattle.c_raw.specs.declared.decl.GlobalMutex.TheVariants as mutex
+use Rattle.c_raw.specs.declared.decl.GlobalCond.{GlobalCond}
+use Rattle.c_raw.specs.declared.decl.GlobalCond.TheVariants as cond
 use Rattle.c_raw.specs.declared.decl.Globals.{Globals}
 use Rattle.c_raw.specs.declared.decl.Globals.TheVariants as globals
 use Rattle.c_raw.specs.declared.decl.Qualifier.{Qualifier}
@@ -70,10 +72,18 @@ global_mutex_view (mutex.SetMutex x at value) = g.SetMutex (ident_view x) at val
 abbrev pub more_global_mutexes_view : List (Spot × GlobalMutex) → List (Spot × g.GlobalMutex)
 more_global_mutexes_view more = map (λ x. (x.0, global_mutex_view x.1)) more
 
+abbrev pub global_cond_view : GlobalCond → g.GlobalCond
+global_cond_view (cond.OneCond x) = g.OneCond (ident_view x)
+global_cond_view (cond.SetCond x at value) = g.SetCond (ident_view x) at value
+
+abbrev pub more_global_conds_view : List (Spot × GlobalCond) → List (Spot × g.GlobalCond)
+more_global_conds_view more = map (λ x. (x.0, global_cond_view x.1)) more
+
 abbrev pub globals_view : Globals → g.Globals
 globals_view (globals.Ints at x more) = g.GlobalInts at (global_int_view x) (more_global_ints_view more)
 globals_view (globals.Holds at x more) = g.GlobalHolds at (hold_view x) (more_holds_view more)
 globals_view (globals.Mutexes at x more) = g.GlobalMutexes at (global_mutex_view x) (more_global_mutexes_view more)
+globals_view (globals.Conds at x more) = g.GlobalConds at (global_cond_view x) (more_global_conds_view more)
 
 abbrev pub qualifier_view : Qualifier → g.Qualifier
 qualifier_view qualifier.Static = g.Static

@@ -86,6 +86,9 @@ library_view (library.Lock at before amp m after) = g.Lock at before amp (ident_
 library_view (library.Unlock at before amp m after) = g.Unlock at before amp (ident_view m) after
 library_view (library.Print at before text more after) = g.Print at before (text_view text) (more_view more) after
 library_view (library.Scan at before text comma amp t after) = g.Scan at before (text_view text) comma amp (target_view t) after
+library_view (library.Wait at before amp1 c comma amp2 m after) = g.Wait at before amp1 (ident_view c) comma amp2 (ident_view m) after
+library_view (library.Signal at before amp c after) = g.Signal at before amp (ident_view c) after
+library_view (library.Broadcast at before amp c after) = g.Broadcast at before amp (ident_view c) after
 
 abbrev pub simple_view : Simple → g.Simple
 simple_view (simple.Plain p) = g.PlainPart (plain_view p)

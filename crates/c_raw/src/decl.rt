@@ -94,6 +94,14 @@ pub enum GlobalMutex {
     SetMutex { name: Ident, at: Spot, value: Spot },
 }
 
+/// A declarator of type `pthread_cond_t`.
+#[derive(Drop)]
+pub enum GlobalCond {
+    OneCond(Ident),
+    /// `name = PTHREAD_COND_INITIALIZER`
+    SetCond { name: Ident, at: Spot, value: Spot },
+}
+
 /// A declaration of global variables without its qualifiers and its semicolon (6.7 of
 /// ISO/IEC 9899:2011); each declarator but the first has its comma before it.
 #[derive(Drop)]
@@ -112,6 +120,11 @@ pub enum Globals {
         at: Spot,
         first: GlobalMutex,
         more: List<(Spot, GlobalMutex)>,
+    },
+    Conds {
+        at: Spot,
+        first: GlobalCond,
+        more: List<(Spot, GlobalCond)>,
     },
 }
 

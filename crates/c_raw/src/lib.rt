@@ -12,7 +12,9 @@ mod stmt;
 mod token;
 
 pub use cond::{BothGuard, Cond, FalseGuard, Guard, TrueGuard};
-pub use decl::{Decl, GlobalInt, GlobalMutex, Globals, Hold, LocalInt, LoopInt, Qualifier, Size};
+pub use decl::{
+    Decl, GlobalCond, GlobalInt, GlobalMutex, Globals, Hold, LocalInt, LoopInt, Qualifier, Size,
+};
 pub use expr::{Binary, Cast, Expr, Long, Prefix};
 pub use file::{Function, Head, Header, Param, Params, Raw, Replacement, Returns, Top};
 pub use op::{Op, Verb};

@@ -170,6 +170,33 @@ pub enum Library {
         target: Target,
         after: Spot,
     },
+    /// `pthread_cond_wait(&cond, &mutex)`
+    Wait {
+        at: Spot,
+        before: Spot,
+        cond_amp: Spot,
+        cond: Ident,
+        comma: Spot,
+        mutex_amp: Spot,
+        mutex: Ident,
+        after: Spot,
+    },
+    /// `pthread_cond_signal(&cond)`
+    Signal {
+        at: Spot,
+        before: Spot,
+        amp: Spot,
+        cond: Ident,
+        after: Spot,
+    },
+    /// `pthread_cond_broadcast(&cond)`
+    Broadcast {
+        at: Spot,
+        before: Spot,
+        amp: Spot,
+        cond: Ident,
+        after: Spot,
+    },
 }
 
 /// A simple statement without its semicolon.

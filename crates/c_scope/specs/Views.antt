@@ -15,6 +15,7 @@ kind_view kind.IntArray = s.int_array
 kind_view kind.Thread = s.thread
 kind_view kind.ThreadArray = s.thread_array
 kind_view kind.Mutex = s.mutex
+kind_view kind.Cond = s.cond
 kind_view kind.Argument = s.argument
 
 abbrev pub local_view : Local → s.Local

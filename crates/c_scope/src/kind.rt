@@ -6,5 +6,6 @@ pub enum VarKind {
     Thread,
     ThreadArray,
     Mutex,
+    Cond,
     Argument,
 }

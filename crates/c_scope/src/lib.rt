@@ -21,7 +21,7 @@ pub use scope::Scope;
 pub use sizes::{note_length, note_size, size_length, size_number};
 pub use table::{Meaning, Row, Table};
 pub use uses::{
-    Use, defined_number, function_number, global_number, is_cast, is_defined, is_element, is_int,
-    is_int_array, is_mutex, is_read, is_thread, is_thread_array, is_thread_function, is_void,
-    local_number, use_of, var_of,
+    Use, defined_number, function_number, global_number, is_cast, is_cond, is_defined, is_element,
+    is_int, is_int_array, is_mutex, is_read, is_thread, is_thread_array, is_thread_function,
+    is_void, local_number, use_of, var_of,
 };

@@ -1,5 +1,5 @@
 ghost use Rattle.std.specs.Prelude.{◌≡◌, Some, None, true, option_map};
-ghost use Rattle.c_prog.specs.Valid.Expressions.{is_int_use, is_thread_use, is_argument, is_mutex};
+ghost use Rattle.c_prog.specs.Valid.Expressions.{is_int_use, is_thread_use, is_argument, is_mutex, is_cond};
 ghost use Rattle.c_names.specs.Uses.{use_of, file_use, kind_of, var_of, local_number, global_number, function_number, is_defined_use, defined_number};
 ghost use Rattle.c_names.specs.Expressions.{is_read, is_element, is_cast, is_void_use};
 ghost use Rattle.c_names.specs.Simples.{is_thread_function_use};
@@ -137,6 +137,16 @@ pub fn is_mutex(found: Use) -> bool
 {
     match kind_of(found) {
         Some(VarKind::Mutex) => true,
+        _ => false,
+    }
+}
+
+/// A condition variable.
+pub fn is_cond(found: Use) -> bool
+    ensures { result ≡ is_cond (kind_of (use_view found)) }
+{
+    match kind_of(found) {
+        Some(VarKind::Cond) => true,
         _ => false,
     }
 }

@@ -46,6 +46,9 @@ word_item w.Create = true
 word_item w.Join = true
 word_item w.Lock = true
 word_item w.Unlock = true
+word_item w.CondWait = true
+word_item w.Signal = true
+word_item w.Broadcast = true
 word_item _ = false
 
 abbrev pub sign_item : Sign → Bool

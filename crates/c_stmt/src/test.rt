@@ -59,6 +59,9 @@ fn is_item_word(word: Word) -> bool
             | Word::Join
             | Word::Lock
             | Word::Unlock
+            | Word::CondWait
+            | Word::Signal
+            | Word::Broadcast
     )
 }
 

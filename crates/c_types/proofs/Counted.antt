@@ -8,10 +8,10 @@ use Rattle.c_grammar.specs.declared.word.Word.TheVariants as w
 use Rattle.c_grammar.specs.declared.sign.Sign.TheVariants as s
 use Rattle.c_grammar.specs.Op.{ops_marks}
 use Rattle.c_grammar.specs.Cond.{cond_marks}
-use Rattle.c_grammar.specs.Decl.{Hold, OneThread, Threads, LocalInt, OneLocal, SetLocal, LocalArray, Decl, Ints, Holds, LoopInt, OneLoop, SetLoop, GlobalInt, OneGlobal, SetGlobal, GlobalArray, GlobalMutex, OneMutex, SetMutex, Globals, GlobalInts, GlobalHolds, GlobalMutexes, hold_marks, more_holds_marks, local_int_marks, decl_marks, loop_int_marks, global_int_marks, global_mutex_marks, globals_marks, qualifiers_marks}
+use Rattle.c_grammar.specs.Decl.{Hold, OneThread, Threads, LocalInt, OneLocal, SetLocal, LocalArray, Decl, Ints, Holds, LoopInt, OneLoop, SetLoop, GlobalInt, OneGlobal, SetGlobal, GlobalArray, GlobalMutex, OneMutex, SetMutex, GlobalCond, OneCond, SetCond, Globals, GlobalInts, GlobalHolds, GlobalMutexes, GlobalConds, hold_marks, more_holds_marks, local_int_marks, decl_marks, loop_int_marks, global_int_marks, global_mutex_marks, global_cond_marks, globals_marks, qualifiers_marks}
 use Rattle.c_grammar.specs.Stmt.{First, FirstInts, FirstPlain, Stmt, Block, Nothing, Simply, Jumps, If, While, For, Else, NoElse, ElseDo, Items, NoItems, AndItem, Item, Declares, Does, first_marks, loop_step_marks, stmt_marks, else_marks, items_marks, item_marks}
 use Rattle.c_grammar.specs.File.{return_word, Param, ParamOf, Params, NoParams, VoidParams, SomeParams, Head, PlainHead, ThreadHead, Top, Include, Define, Variables, Prototype, Function, File, param_marks, params_marks, name_marks, static_marks, head_marks, top_marks, file_marks}
-use Rattle.c_names.specs.Declarations.{global_int_variable, hold_variable, mutex_variable, variables, param_of, params_of, head_params}
+use Rattle.c_names.specs.Declarations.{global_int_variable, hold_variable, mutex_variable, cond_variable, variables, param_of, params_of, head_params}
 use Rattle.c_names.specs.Parsed.{IsParsed}
 use Rattle.c_names.specs.Scopes.{local_int_declared, hold_declared, loop_int_declared, decl_declared, first_declared, stmt_locals, else_locals, items_locals, item_locals}
 use Rattle.valid_law.proofs.Tokens.{tokens-few}
@@ -155,6 +155,10 @@ mutex-some : (d : ℕ) (x : GlobalMutex) → 1 ≤ length (global_mutex_marks d 
 mutex-some d (OneMutex x) = omega arith
 mutex-some d (SetMutex x at value) = omega arith
 
+cond-some : (d : ℕ) (x : GlobalCond) → 1 ≤ length (global_cond_marks d x)
+cond-some d (OneCond x) = omega arith
+cond-some d (SetCond x at value) = omega arith
+
 variables-fit : (globals : Globals) → length (variables globals) ≤ length (globals_marks 0 globals)
 variables-fit (GlobalInts at x more) =
     omega (
@@ -179,6 +183,14 @@ variables-fit (GlobalMutexes at x more) =
       mutex-some 0 x,
       length-append (global_mutex_marks 0 x) (each (λ y. (sign s.Comma y.0, 0) ∷ global_mutex_marks 0 y.1) more),
       longer (λ (y : Spot × GlobalMutex). (sign s.Comma y.0, 0) ∷ global_mutex_marks 0 y.1) (λ y. omega arith) more,
+    )
+variables-fit (GlobalConds at x more) =
+    omega (
+      arith,
+      seconds cond_variable more,
+      cond-some 0 x,
+      length-append (global_cond_marks 0 x) (each (λ y. (sign s.Comma y.0, 0) ∷ global_cond_marks 0 y.1) more),
+      longer (λ (y : Spot × GlobalCond). (sign s.Comma y.0, 0) ∷ global_cond_marks 0 y.1) (λ y. omega arith) more,
     )
 
 top-fits : (top : Top) → top_count top ≤ length (top_marks top)

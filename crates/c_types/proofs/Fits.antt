@@ -18,7 +18,7 @@ use Rattle.c_grammar.specs.declared.sign.Sign.TheVariants as s
 use Rattle.c_grammar.specs.Reader.{each, tokens}
 use Rattle.c_grammar.specs.Token.{Kind, IsNumber, IsWord, IsSign, Token, Mark, sign}
 use Rattle.c_grammar.specs.Spelling.{word_among, words, word_text, word_kind, sign_among, signs, sign_text, sign_kind}
-use Rattle.c_grammar.specs.Decl.{Size, Count, Named, GlobalInt, OneGlobal, SetGlobal, GlobalArray, Globals, GlobalInts, GlobalHolds, GlobalMutexes, minus_marks, size_marks, global_int_marks, globals_marks, qualifiers_marks}
+use Rattle.c_grammar.specs.Decl.{Size, Count, Named, GlobalInt, OneGlobal, SetGlobal, GlobalArray, Globals, GlobalInts, GlobalHolds, GlobalMutexes, GlobalConds, minus_marks, size_marks, global_int_marks, globals_marks, qualifiers_marks}
 use Rattle.c_grammar.specs.File.{Replacement, Plainly, InParens, Top, Include, Define, Variables, Prototype, Function, File, replacement_marks, top_marks, file_marks}
 use Rattle.c_names.specs.Uses.{Meaning, OfVariable, OfFunction, OfNumber, defined_number}
 use Rattle.c_names.specs.Declarations.{Variable, Declaration, numbered, variables, replacement_number, declarations_from, names_of, is_of, first_meaning}
@@ -198,6 +198,7 @@ module _ (file : File) (plain_file : list_all plain_mark (file_marks file) ≡ t
       (values-fit more (all-right plain_mark (global_int_marks 0 x) (each (λ y. (sign s.Comma y.0, 0) ∷ global_int_marks 0 y.1) more) h))
   globals-fit (GlobalHolds at x more) h = refl
   globals-fit (GlobalMutexes at x more) h = refl
+  globals-fit (GlobalConds at x more) h = refl
 
   top-fits : (top : Top) → list_all plain_mark (top_marks top) ≡ true → top_fits (names_of file) top ≡ true
   top-fits (Include at name header) h = refl

@@ -84,6 +84,7 @@ kind-kept s.int_array = refl
 kind-kept s.thread = refl
 kind-kept s.thread_array = refl
 kind-kept s.mutex = refl
+kind-kept s.cond = refl
 kind-kept s.argument = refl
 
 meaning-kept : (m : Meaning) → meaning_view (fresh (meaning_kept m)).first ≡ m

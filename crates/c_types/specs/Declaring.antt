@@ -23,6 +23,7 @@ kind_kept s.int_array = kind.IntArray
 kind_kept s.thread = kind.Thread
 kind_kept s.thread_array = kind.ThreadArray
 kind_kept s.mutex = kind.Mutex
+kind_kept s.cond = kind.Cond
 kind_kept s.argument = kind.Argument
 
 -- what a table keeps of what is declared

@@ -49,6 +49,7 @@ fn push_globals(
         Globals::Ints { first, more, .. } => push_list(cells, names, first, more.as_slice()),
         Globals::Holds { first, more, .. } => push_list(cells, names, first, more.as_slice()),
         Globals::Mutexes { first, more, .. } => push_list(cells, names, first, more.as_slice()),
+        Globals::Conds { first, more, .. } => push_list(cells, names, first, more.as_slice()),
     }
 }
 

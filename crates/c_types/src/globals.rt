@@ -11,7 +11,7 @@ ghost use Rattle.c_scope.specs.Tables.{names_from};
 use crate::declarator::Declarator;
 use c_names::{Fault, FaultKind};
 use c_prog::GlobalKind;
-use c_raw::{GlobalInt, GlobalMutex, Hold, Ident, Size};
+use c_raw::{GlobalCond, GlobalInt, GlobalMutex, Hold, Ident, Size};
 use c_scope::{
     Scope, Table, VarKind, note_if, note_length, note_reserved, note_size, size_length, size_number,
 };
@@ -247,5 +247,49 @@ impl Declarator for GlobalMutex {
 
     fn spell(&self, alloc: Global, _names: &Table) -> Result<c_prog::Global, NoMemory> {
         global_of(alloc, self.name(), GlobalKind::Mutex)
+    }
+}
+
+impl Declarator for GlobalCond {
+    ghost use Rattle.std.specs.Prelude.{true};
+    ghost use Rattle.c_raw.specs.Decls.{global_cond_view};
+    ghost use Rattle.c_names.specs.Declarations.{cond_variable};
+    ghost use Rattle.c_names.specs.Files.{global_cond_faults, global_cond_cells};
+    ghost use Rattle.c_names.specs.Sources.{global_cond_of};
+
+    ghost variable = { λ x. cond_variable (global_cond_view x) };
+
+    ghost faults = { λ names x. global_cond_faults (global_cond_view x) };
+
+    ghost spelled = { λ names x. global_cond_of (global_cond_view x) };
+
+    ghost cells = { λ names x. global_cond_cells (global_cond_view x) };
+
+    ghost fits = { λ names x. true };
+
+    fn name(&self) -> &Ident {
+        match self {
+            GlobalCond::OneCond(name) => name,
+            GlobalCond::SetCond { name, .. } => name,
+        }
+    }
+
+    fn kind(&self) -> VarKind {
+        VarKind::Cond
+    }
+
+    fn cells_at(&self, _names: &Table) -> (Spot, u32) {
+        match self {
+            GlobalCond::OneCond(name) => (name.spot, 1),
+            GlobalCond::SetCond { name, .. } => (name.spot, 1),
+        }
+    }
+
+    fn note(&self, _alloc: Global, least: &mut Option<Fault>, _names: &Table) {
+        note_variable(least, self.name());
+    }
+
+    fn spell(&self, alloc: Global, _names: &Table) -> Result<c_prog::Global, NoMemory> {
+        global_of(alloc, self.name(), GlobalKind::Cond)
     }
 }

@@ -33,6 +33,7 @@ fn variables_count(globals: &Globals) -> u32
         Globals::Ints { more, .. } => more.len() as u32 + 1,
         Globals::Holds { more, .. } => more.len() as u32 + 1,
         Globals::Mutexes { more, .. } => more.len() as u32 + 1,
+        Globals::Conds { more, .. } => more.len() as u32 + 1,
     }
 }
 
@@ -56,6 +57,9 @@ fn declare_globals(
             declare_list(alloc, table, least, number, first, more.as_slice())
         }
         Globals::Mutexes { first, more, .. } => {
+            declare_list(alloc, table, least, number, first, more.as_slice())
+        }
+        Globals::Conds { first, more, .. } => {
             declare_list(alloc, table, least, number, first, more.as_slice())
         }
     }

@@ -47,6 +47,9 @@ fn note_globals(alloc: Global, least: &mut Option<Fault>, names: &Table, globals
         Globals::Mutexes { first, more, .. } => {
             note_list(alloc, least, names, first, more.as_slice());
         }
+        Globals::Conds { first, more, .. } => {
+            note_list(alloc, least, names, first, more.as_slice());
+        }
     }
 }
 
@@ -68,6 +71,9 @@ fn spell_globals(
             spell_list(alloc, list, names, first, more.as_slice())
         }
         Globals::Mutexes { first, more, .. } => {
+            spell_list(alloc, list, names, first, more.as_slice())
+        }
+        Globals::Conds { first, more, .. } => {
             spell_list(alloc, list, names, first, more.as_slice())
         }
     }

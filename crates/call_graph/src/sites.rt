@@ -31,7 +31,10 @@ fn act_callee(act: &Act) -> Option<FnId>
         | Act::Lock(_)
         | Act::Unlock(_)
         | Act::Print { .. }
-        | Act::Scan(_) => None,
+        | Act::Scan(_)
+        | Act::Wait { .. }
+        | Act::Signal(_)
+        | Act::Broadcast(_) => None,
     }
 }
 

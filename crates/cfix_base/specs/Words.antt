@@ -32,9 +32,11 @@ keywords = codes "auto" ∷ codes "break" ∷ codes "case" ∷ codes "char" ∷ 
 abbrev pub library_words : List (List ℕ)
 library_words = codes "NULL" ∷ codes "printf" ∷ codes "scanf" ∷ codes "pthread_t" ∷ codes "pthread_mutex_t" ∷
     codes "pthread_create" ∷ codes "pthread_join" ∷ codes "pthread_mutex_lock" ∷
-    codes "pthread_mutex_unlock" ∷ codes "PTHREAD_MUTEX_INITIALIZER" ∷ codes "cfix_enter" ∷
-    codes "cfix_leave" ∷ codes "cfix_wait" ∷ codes "cfix_done" ∷ codes "cfix_first" ∷
-    codes "cfix_add" ∷ codes "cfix_value" ∷ []
+    codes "pthread_mutex_unlock" ∷ codes "PTHREAD_MUTEX_INITIALIZER" ∷ codes "pthread_cond_t" ∷
+    codes "pthread_cond_wait" ∷ codes "pthread_cond_signal" ∷ codes "pthread_cond_broadcast" ∷
+    codes "PTHREAD_COND_INITIALIZER" ∷ codes "cfix_enter" ∷ codes "cfix_leave" ∷
+    codes "cfix_wait" ∷ codes "cfix_done" ∷ codes "cfix_first" ∷ codes "cfix_add" ∷
+    codes "cfix_value" ∷ []
 
 abbrev pub is_keyword : List ℕ → Bool
 is_keyword text = list_any (bytes_eq text) keywords

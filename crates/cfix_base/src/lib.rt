@@ -6,6 +6,7 @@ mod access;
 mod entry;
 mod limits;
 mod list;
+mod mark;
 mod memory;
 mod number;
 mod op;
@@ -22,6 +23,7 @@ pub use limits::{
     MAX_TOKENS,
 };
 pub use list::List;
+pub use mark::Marks;
 pub use memory::NoMemory;
 pub use number::{FnId, LockId, NodeId, OrderId, VarId};
 pub use op::Op;

@@ -52,7 +52,7 @@ const KEYWORDS: [&[u8]; 44] = [
 ];
 
 /// The names of the headers and the operations of CFix that are read as words.
-const LIBRARY_WORDS: [&[u8]; 17] = [
+const LIBRARY_WORDS: [&[u8]; 22] = [
     b"NULL",
     b"printf",
     b"scanf",
@@ -63,6 +63,11 @@ const LIBRARY_WORDS: [&[u8]; 17] = [
     b"pthread_mutex_lock",
     b"pthread_mutex_unlock",
     b"PTHREAD_MUTEX_INITIALIZER",
+    b"pthread_cond_t",
+    b"pthread_cond_wait",
+    b"pthread_cond_signal",
+    b"pthread_cond_broadcast",
+    b"PTHREAD_COND_INITIALIZER",
     b"cfix_enter",
     b"cfix_leave",
     b"cfix_wait",

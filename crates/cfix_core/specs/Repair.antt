@@ -2,6 +2,7 @@
 use Rattle.std.specs.Prelude.{ℕ, ◌≡◌, ◌⊎◌, Bool, true, false, if◌then◌else◌, List, [], ◌∷◌, Option, Some, None}
 use Rattle.c_prog.specs.declared.tree.Tree.{Tree}
 use Rattle.c_prog.specs.Lines.{SourceTree}
+use Rattle.c_prog.specs.Marks.{all_new}
 use Rattle.c_prog.specs.Strip.{strip_tree}
 use Rattle.c_print.specs.Text.Canonical.{canonical}
 use Rattle.plan_types.specs.declared.bound.Atom.{Atom}
@@ -60,7 +61,7 @@ pub record IsRepaired (program : SourceTree) (report : Report) (text : List ℕ)
   pub visits : Visits program report
   pub q : Tree
   pub is_patched : IsPatched program.tree (visits.bound ∷ []) q
-  pub stripped : strip_tree q ≡ program.tree
+  pub stripped : strip_tree all_new q ≡ program.tree
   pub is_text : text ≡ canonical q
 
 -- the report is bound, and p and c do not lie in one visit

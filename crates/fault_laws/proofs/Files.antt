@@ -8,7 +8,7 @@ use Rattle.c_grammar.specs.declared.sign.Sign.TheVariants as s
 use Rattle.c_grammar.specs.Reader.{each, tokens}
 use Rattle.c_grammar.specs.Token.{Ident, Mark, sign}
 use Rattle.c_grammar.specs.Op.{Ops, ops_marks}
-use Rattle.c_grammar.specs.Decl.{Size, size_marks, Hold, OneThread, Threads, hold_marks, GlobalInt, OneGlobal, SetGlobal, GlobalArray, global_int_marks, GlobalMutex, OneMutex, SetMutex, global_mutex_marks, Globals, GlobalInts, GlobalHolds, GlobalMutexes, globals_marks}
+use Rattle.c_grammar.specs.Decl.{Size, size_marks, Hold, OneThread, Threads, hold_marks, GlobalInt, OneGlobal, SetGlobal, GlobalArray, global_int_marks, GlobalMutex, OneMutex, SetMutex, global_mutex_marks, GlobalCond, OneCond, SetCond, global_cond_marks, Globals, GlobalInts, GlobalHolds, GlobalMutexes, GlobalConds, globals_marks}
 use Rattle.c_grammar.specs.Stmt.{Items, items_marks}
 use Rattle.c_grammar.specs.File.{Param, ParamOf, param_marks, Params, NoParams, VoidParams, SomeParams, params_marks, Head, PlainHead, ThreadHead, head_marks, name_marks, Top, Include, Define, Variables, Prototype, Function, top_marks, File, file_marks}
 use Rattle.c_prog.specs.Valid.Scope.{VarKind, Scope, nothing_declared, declared}
@@ -17,8 +17,8 @@ use Rattle.c_names.specs.declared.fault.FaultKind.TheVariants.{Unknown, Twice, W
 use Rattle.c_names.specs.Uses.{Form, Names}
 use Rattle.c_names.specs.Limits.{Cells}
 use Rattle.c_names.specs.Starts.{start_number, start_faults}
-use Rattle.c_names.specs.Declarations.{Variable, global_int_variable, hold_variable, mutex_variable, variables, replacement_number, head_name, Parameter, param_of, params_of, head_params, head_form, Declaration, numbered, declarations_from, declarations, names_of}
-use Rattle.c_names.specs.Files.{all_twice_faults, variable_faults, number_faults, global_int_faults, global_hold_faults, global_mutex_faults, globals_faults, global_int_cells, global_hold_cells, global_mutex_cells, globals_cells, prototype_name_faults, prototype_param_faults, prototype_faults, param_text, param_name_faults, params_faults, body_scope, body_around, param_cells, function_cells, function_faults, top_faults, top_functions, top_cells, top_nodes, count_faults, faults_of}
+use Rattle.c_names.specs.Declarations.{Variable, global_int_variable, hold_variable, mutex_variable, cond_variable, variables, replacement_number, head_name, Parameter, param_of, params_of, head_params, head_form, Declaration, numbered, declarations_from, declarations, names_of}
+use Rattle.c_names.specs.Files.{all_twice_faults, variable_faults, number_faults, global_int_faults, global_hold_faults, global_mutex_faults, global_cond_faults, globals_faults, global_int_cells, global_hold_cells, global_mutex_cells, global_cond_cells, globals_cells, prototype_name_faults, prototype_param_faults, prototype_faults, param_text, param_name_faults, params_faults, body_scope, body_around, param_cells, function_cells, function_faults, top_faults, top_functions, top_cells, top_nodes, count_faults, faults_of}
 use Rattle.fault_laws.specs.Places.{StandsAt}
 use Rattle.fault_laws.proofs.Each.{Over, Each, none, more, only, first, rest, front, back, both, Tokens, Faults, if_so, reserved}
 use Rattle.fault_laws.proofs.Simples.{ops-at}
@@ -57,6 +57,10 @@ mutex_variable-at : (P : Spot → Type 0) (x : GlobalMutex) → Tokens P (global
 mutex_variable-at P (OneMutex x) h = first h
 mutex_variable-at P (SetMutex x at value) h = first h
 
+cond_variable-at : (P : Spot → Type 0) (x : GlobalCond) → Tokens P (global_cond_marks 0 x) → P (cond_variable x).0.spot
+cond_variable-at P (OneCond x) h = first h
+cond_variable-at P (SetCond x at value) h = first h
+
 variables-at : (P : Spot → Type 0) (x : Globals) → Tokens P (globals_marks 0 x) → DeclaredVariables P (variables x)
 variables-at P (GlobalInts at x list) h =
     more (global_int_variable-at P x (front _ _ (rest h)))
@@ -67,6 +71,9 @@ variables-at P (GlobalHolds at x list) h =
 variables-at P (GlobalMutexes at x list) h =
     more (mutex_variable-at P x (front _ _ (rest h)))
     (cells.behind_commas P (λ (v : Variable). P v.0.spot) 0 (global_mutex_marks 0) mutex_variable (mutex_variable-at P) list (back _ _ (rest h)))
+variables-at P (GlobalConds at x list) h =
+    more (cond_variable-at P x (front _ _ (rest h)))
+    (cells.behind_commas P (λ (v : Variable). P v.0.spot) 0 (global_cond_marks 0) cond_variable (cond_variable-at P) list (back _ _ (rest h)))
 
 head_name-at : (P : Spot → Type 0) (head : Head) → Tokens P (head_marks head) → P (head_name head).spot
 head_name-at P (PlainHead static return at name before list after) h = first (rest (back _ _ h))
@@ -108,6 +115,10 @@ global_mutex-at : (P : Spot → Type 0) (x : GlobalMutex) → Tokens P (global_m
 global_mutex-at P (OneMutex x) h = variable-at P x (first h)
 global_mutex-at P (SetMutex x at value) h = variable-at P x (first h)
 
+global_cond-at : (P : Spot → Type 0) (x : GlobalCond) → Tokens P (global_cond_marks 0 x) → Faults P (global_cond_faults x)
+global_cond-at P (OneCond x) h = variable-at P x (first h)
+global_cond-at P (SetCond x at value) h = variable-at P x (first h)
+
 -- the faults of each item behind a comma
 each_behind : {A : Type 0} (P : Spot → Type 0) (marks : A → List Mark) (of : A → List Fault) → ((a : A) → Tokens P (marks a) → Faults P (of a))
     → (list : List (Spot × A)) → Tokens P (each (λ y. (sign s.Comma y.0, 0) ∷ marks y.1) list) → Faults P (each of (map (λ y. y.1) list))
@@ -124,6 +135,9 @@ globals-at P names (GlobalHolds at x list) h =
 globals-at P names (GlobalMutexes at x list) h =
     both (global_mutex-at P x (front _ _ (rest h)))
     (each_behind P (global_mutex_marks 0) global_mutex_faults (global_mutex-at P) list (back _ _ (rest h)))
+globals-at P names (GlobalConds at x list) h =
+    both (global_cond-at P x (front _ _ (rest h)))
+    (each_behind P (global_cond_marks 0) global_cond_faults (global_cond-at P) list (back _ _ (rest h)))
 
 global_int_cells-at : (P : Spot → Type 0) (names : Names) (x : GlobalInt) → Tokens P (global_int_marks 0 x) → P (global_int_cells names x).0
 global_int_cells-at P names (OneGlobal x) h = first h
@@ -138,6 +152,10 @@ global_mutex_cells-at : (P : Spot → Type 0) (x : GlobalMutex) → Tokens P (gl
 global_mutex_cells-at P (OneMutex x) h = first h
 global_mutex_cells-at P (SetMutex x at value) h = first h
 
+global_cond_cells-at : (P : Spot → Type 0) (x : GlobalCond) → Tokens P (global_cond_marks 0 x) → P (global_cond_cells x).0
+global_cond_cells-at P (OneCond x) h = first h
+global_cond_cells-at P (SetCond x at value) h = first h
+
 globals_cells-at : (P : Spot → Type 0) (names : Names) (x : Globals) → Tokens P (globals_marks 0 x) → cells.Variables P (globals_cells names x)
 globals_cells-at P names (GlobalInts at x list) h =
     more (global_int_cells-at P names x (front _ _ (rest h)))
@@ -148,6 +166,9 @@ globals_cells-at P names (GlobalHolds at x list) h =
 globals_cells-at P names (GlobalMutexes at x list) h =
     more (global_mutex_cells-at P x (front _ _ (rest h)))
     (cells.behind_commas P (λ (c : Cells). P c.0) 0 (global_mutex_marks 0) global_mutex_cells (global_mutex_cells-at P) list (back _ _ (rest h)))
+globals_cells-at P names (GlobalConds at x list) h =
+    more (global_cond_cells-at P x (front _ _ (rest h)))
+    (cells.behind_commas P (λ (c : Cells). P c.0) 0 (global_cond_marks 0) global_cond_cells (global_cond_cells-at P) list (back _ _ (rest h)))
 
 -- ---- parameters
 

@@ -3,7 +3,7 @@ use Rattle.std.proofs.Common.{ℕ, zero, suc, List, [], ◌∷◌, map, drop, Op
 use Rattle.cfix_base.specs.declared.Spot.{Spot}
 use Rattle.c_grammar.specs.Reader.{maybe}
 use Rattle.c_grammar.specs.Expr.{Expr, Number, Name, Index, Paren, Cast, Unary, Operation, pieces}
-use Rattle.c_grammar.specs.Simple.{Target, TargetOf, target_marks, Call, CallOf, call_marks, Plain, SetTo, Changed, SteppedAfter, SteppedBefore, plain_marks, Library, Create, Join, Lock, Unlock, Print, Scan, library_marks, Simple, PlainPart, SetCall, OnlyCall, LibraryPart, simple_marks}
+use Rattle.c_grammar.specs.Simple.{Target, TargetOf, target_marks, Call, CallOf, call_marks, Plain, SetTo, Changed, SteppedAfter, SteppedBefore, plain_marks, Library, Create, Join, Lock, Unlock, Print, Scan, Wait, Signal, Broadcast, library_marks, Simple, PlainPart, SetCall, OnlyCall, LibraryPart, simple_marks}
 use Rattle.c_grammar.specs.Decl.{Hold, OneThread, Threads, hold_marks, LocalInt, OneLocal, SetLocal, LocalArray, local_int_marks, Decl, Ints, Holds, decl_marks, LoopInt, OneLoop, SetLoop, loop_int_marks}
 use Rattle.c_grammar.specs.Cond.{TrueGuard, TrueGuardOf, Cond, Bare, OnTrue, OnFalse, OnBoth, true_guard_pieces, cond_pieces, cond_marks}
 use Rattle.c_grammar.specs.Stmt.{Jump, BareJump, ReturnValue, BareBlock, ValueBlock, jump_marks, First, FirstInts, FirstPlain, first_marks, LoopStep, LoopStepOf, loop_step_marks, Stmt, Block, Nothing, Simply, Jumps, If, While, For, Else, NoElse, ElseDo, Items, NoItems, AndItem, Item, Declares, Does, stmt_marks, else_marks, items_marks, item_marks}
@@ -54,6 +54,9 @@ library_spot-at P d (Lock at before amp m after) h = first h
 library_spot-at P d (Unlock at before amp m after) h = first h
 library_spot-at P d (Print at before text list after) h = first h
 library_spot-at P d (Scan at before text comma amp t after) h = first h
+library_spot-at P d (Wait at before amp1 c comma amp2 m after) h = first h
+library_spot-at P d (Signal at before amp c after) h = first h
+library_spot-at P d (Broadcast at before amp c after) h = first h
 
 simple_spot-at : (P : Spot → Type 0) (d : ℕ) (x : Simple) → Tokens P (simple_marks d x) → P (simple_spot x)
 simple_spot-at P d (PlainPart p) h = plain_spot-at P d p h

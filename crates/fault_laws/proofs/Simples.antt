@@ -3,7 +3,7 @@ use Rattle.std.proofs.Common.{ℕ, suc, List, [], ◌∷◌, ◌++◌}
 use Rattle.cfix_base.specs.declared.Spot.{Spot}
 use Rattle.c_grammar.specs.Expr.{pieces, long_pieces}
 use Rattle.c_grammar.specs.Op.{Op, OpOf, op_marks, Ops, ops_marks, more_ops_marks}
-use Rattle.c_grammar.specs.Simple.{Plain, SetTo, Changed, SteppedAfter, SteppedBefore, plain_marks, ThreadArg, NullArg, CastArg, thread_arg_marks, Library, Create, Join, Lock, Unlock, Print, Scan, library_marks, Simple, PlainPart, SetCall, OnlyCall, LibraryPart, simple_marks}
+use Rattle.c_grammar.specs.Simple.{Plain, SetTo, Changed, SteppedAfter, SteppedBefore, plain_marks, ThreadArg, NullArg, CastArg, thread_arg_marks, Library, Create, Join, Lock, Unlock, Print, Scan, Wait, Signal, Broadcast, library_marks, Simple, PlainPart, SetCall, OnlyCall, LibraryPart, simple_marks}
 use Rattle.c_grammar.specs.Stmt.{Bare, Break, Continue, Return, ReturnNull, bare_marks, Jump, BareJump, ReturnValue, BareBlock, ValueBlock, jump_marks}
 use Rattle.c_prog.specs.Valid.Scope.{Scope}
 use Rattle.c_prog.specs.Valid.Statements.{Around}
@@ -50,6 +50,10 @@ library-at P names scope d (Print at before text more after) h =
     (both (if_so P _ text.spot WrongUse (first (rest (rest h)))) (more_exprs-at P names scope d more (front _ _ (rest (rest (rest h))))))
 library-at P names scope d (Scan at before text comma amp t after) h =
     both (if_so P _ text.spot WrongUse (first (rest (rest h)))) (int_target-at P names scope d t (front _ _ (rest (rest (rest (rest (rest h)))))))
+library-at P names scope d (Wait at before amp1 c comma amp2 m after) h =
+    both (named P _ _ c (first (rest (rest (rest h))))) (named P _ _ m (first (rest (rest (rest (rest (rest (rest h))))))))
+library-at P names scope d (Signal at before amp c after) h = named P _ _ c (first (rest (rest (rest h))))
+library-at P names scope d (Broadcast at before amp c after) h = named P _ _ c (first (rest (rest (rest h))))
 
 pub simple-at : (P : Spot → Type 0) (names : Names) (scope : Scope) (d : ℕ) (x : Simple) → Tokens P (simple_marks d x) → Faults P (simple_faults names scope x)
 simple-at P names scope d (PlainPart p) h = plain-at P names scope d p h

@@ -4,7 +4,7 @@ use Rattle.std.specs.Cmp.Derive.{both_true}
 use Rattle.cfix_base.specs.declared.number.VarId.{VarId}
 use Rattle.cfix_base.specs.declared.op.Op.{Op}
 use Rattle.c_prog.specs.declared.act.Act.{Act}
-use Rattle.c_prog.specs.declared.act.Act.TheVariants.{Declare, Assign, Up, Down, Call, Create, Join, Lock, Unlock, Print, Scan}
+use Rattle.c_prog.specs.declared.act.Act.TheVariants.{Declare, Assign, Up, Down, Call, Create, Join, Lock, Unlock, Print, Scan, Wait, Signal, Broadcast}
 use Rattle.c_prog.specs.declared.act.How.TheVariants.{Set, Add, Sub, Mul, Div, Rem}
 use Rattle.c_prog.specs.declared.act.Value.TheVariants as value
 use Rattle.c_prog.specs.declared.expr.Expr.{Expr}
@@ -167,6 +167,9 @@ module _ (globals : List global_struct.Global) where
   act-is (Unlock m) p h = cc
   act-is (Print text args) p h = cc
   act-is (Scan t) p h = cc
+  act-is (Wait c m) p h = cc
+  act-is (Signal c) p h = cc
+  act-is (Broadcast c) p h = cc
 
   -- What a statement of the first form is.
   pub record Is (s : Stmt) (p : Plain) : Type 0 where

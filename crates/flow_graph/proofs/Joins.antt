@@ -14,9 +14,9 @@ use Rattle.flow_graph.specs.Flow.{Way, Edge, Next, node, fn_id, start_way, after
 use Rattle.flow_graph.specs.Table.{out_ways, ways_of, table_ways, table_end}
 use Rattle.flow_graph.specs.Within.{IsWithin, AreWithin, IsFitting}
 use Rattle.flow_graph.specs.Paths.{Link, Path, Leads, IsReach}
-use Rattle.flow_graph.specs.Walks.{Steps, IsWalk, list_or}
+use Rattle.walks.specs.Walks.{Steps, IsWalk, list_or}
 use Rattle.flow_graph.specs.Links.{met, out_targets, onward}
-use Rattle.flow_graph.proofs.Walks.{nothing_in}
+use Rattle.walks.proofs.Walks.{nothing_in}
 
 the_item : {X : Type 0} (x y : X) → Contains (x ∷ []) y → x ≡ y
 the_item x y here = elim (Contains-push_cases [] x y here) [

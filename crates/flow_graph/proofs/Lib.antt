@@ -2,8 +2,6 @@ pub mod NodeCounts
 pub mod Tables
 pub mod Graphs
 pub mod Within
-pub mod Walks
-pub mod Turns
 pub mod Joins
 pub mod Turnings
 pub mod Returns

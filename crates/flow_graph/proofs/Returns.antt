@@ -10,10 +10,10 @@ use Rattle.flow_graph.specs.declared.table.Table.{Table}
 use Rattle.flow_graph.specs.Flow.{Edge, Next, start_way, edges_of}
 use Rattle.flow_graph.specs.Table.{table_ways, table_end}
 use Rattle.flow_graph.specs.Within.{IsFitting}
-use Rattle.flow_graph.specs.Paths.{Clear, IsBack}
-use Rattle.flow_graph.specs.Walks.{Steps, IsWalk, targets_in}
+use Rattle.flow_graph.specs.Paths.{IsBack}
+use Rattle.walks.specs.Walks.{Clear, Steps, IsWalk, targets_in}
 use Rattle.flow_graph.specs.Links.{out_targets, onward, listed, Turned, one_if, members}
-use Rattle.flow_graph.proofs.Walks.{nothing_in, clear_append, steps_on}
+use Rattle.walks.proofs.Walks.{nothing_in, clear_append, steps_on}
 use Rattle.flow_graph.proofs.Joins.{ends_within, steps_path, path_steps}
 
 -- the numbers of a set in a range

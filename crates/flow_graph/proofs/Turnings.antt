@@ -5,9 +5,9 @@ use Rattle.std.proofs.lemmas.Bool.{cases_eq}
 use Rattle.std.proofs.lemmas.List.{length-set, get_or-set_same, get_or-set_other}
 use Rattle.std.proofs.lemmas.List.Elements.{Contains-append_left, Contains-push, Contains-push_cases}
 use Rattle.std.proofs.lemmas.Option.{slice_get_read}
-use Rattle.flow_graph.specs.Walks.{list_or}
+use Rattle.walks.specs.Walks.{list_or}
 use Rattle.flow_graph.specs.Links.{listed, with_link, Gains, Turned}
-use Rattle.flow_graph.proofs.Walks.{nothing_in}
+use Rattle.walks.proofs.Walks.{nothing_in}
 
 listed_is : (lists : List (List ℕ)) (place : ℕ) → listed lists place ≡ get_or lists place []
 listed_is [] place = refl

@@ -3,6 +3,5 @@ pub mod Table
 pub mod Paths
 pub mod Regions
 pub mod Within
-pub mod Walks
 pub mod Links
 pub mod Counts

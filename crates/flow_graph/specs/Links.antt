@@ -6,7 +6,7 @@ use Rattle.flow_graph.specs.declared.table.Out.{Out}
 use Rattle.flow_graph.specs.declared.table.Out.TheVariants as out
 use Rattle.flow_graph.specs.declared.table.Table.{Table}
 use Rattle.flow_graph.specs.Flow.{Next}
-use Rattle.flow_graph.specs.Walks.{targets_in, list_or}
+use Rattle.walks.specs.Walks.{targets_in, list_or}
 use Rattle.flow_graph.specs.Within.{IsFitting}
 
 -- the node that is met, unless the way is dead or goes to the exit

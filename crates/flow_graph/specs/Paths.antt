@@ -5,6 +5,7 @@ use Rattle.c_prog.specs.declared.function.Function.{Function}
 use Rattle.c_prog.specs.declared.tree.Tree.{Tree}
 use Rattle.c_prog.specs.Nodes.{first_node}
 use Rattle.plan_types.specs.Sets.{IsIn}
+use Rattle.walks.specs.Walks.{Clear}
 use Rattle.flow_graph.specs.Flow.{Edge, Next, tree_edges, parts_of, size_of, first_of}
 
 -- one edge leads from u to v
@@ -18,11 +19,6 @@ pub record Link (edges : List Edge) (u v : ℕ) : Type 0 where
 abbrev pub Path : List Edge → ℕ → List ℕ → ℕ → Type 0
 Path edges u [] v = Link edges u v
 Path edges u (m ∷ rest) v = Link edges u m × Path edges m rest v
-
--- none of the nodes is in the set
-abbrev pub Clear : List Bool → List ℕ → Type 0
-Clear avoiding [] = Unit {0}
-Clear avoiding (m ∷ rest) = (¬ IsIn avoiding m) × Clear avoiding rest
 
 -- a path of at least one edge leads from u to v, with no inner node in the set
 pub record Leads (edges : List Edge) (avoiding : List Bool) (u v : ℕ) : Type 0 where

@@ -6,11 +6,11 @@ use crate::backward::turned;
 use crate::choice::members;
 use crate::links::onward;
 use crate::table::{Out, Table, out_at};
-use crate::walk::walk;
 use cfix_base::{List, NoMemory, NodeId, Place};
 use plan_types::NodeSet;
 use std::alloc::Global;
 use std::marker::Model;
+use walks::walk;
 
 /// Control flow of one function of a program.
 #[derive(Debug, Drop)]
@@ -162,9 +162,9 @@ impl Flow {
             first,
             self.size,
             starts,
-            avoiding,
+            avoiding.numbers(),
         )?;
-        Ok(set)
+        Ok(NodeSet::of(set))
     }
 
     /// The nodes of this function from which a path of at least one edge leads to a node of `to` with
@@ -182,9 +182,9 @@ impl Flow {
             first,
             size,
             starts,
-            avoiding,
+            avoiding.numbers(),
         )?;
-        Ok(found)
+        Ok(NodeSet::of(found))
     }
 }
 

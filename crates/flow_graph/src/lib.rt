@@ -12,7 +12,6 @@ mod inner_sizes;
 mod links;
 mod sizes;
 mod table;
-mod walk;
 
 pub use build::{flow, flows};
 pub use graph::Flow;

@@ -1,6 +1,5 @@
 -- The functions of a program have numbers of nodes of their own, so that an edge from a node is one of its function.
-use Rattle.std.proofs.Common.{◌≡◌, ◌≤◌, ℕ, zero, suc, ◌+◌, ◌<◌, ◌⊎◌, List, [], ◌∷◌, ◌++◌, map, take, length, slice_get, Option, Some, None, inl, inr, ap, sym, ◌∙◌, refl, subst, arith, append_assoc}
-use Rattle.std.specs.List.{Contains}
+use Rattle.std.proofs.Common.{◌≡◌, ◌≤◌, ℕ, zero, suc, ◌+◌, ◌⊎◌, List, [], ◌∷◌, ◌++◌, take, length, slice_get, Some, None, inl, inr, ap, sym, ◌∙◌, refl, subst, arith, append_assoc}
 use Rattle.std.proofs.lemmas.Option.{none-some}
 use Rattle.std.proofs.lemmas.List.{length-append}
 use Rattle.std.proofs.lemmas.List.Elements.{Contains-append_left, Contains-append_right, Contains-append_cases, Contains-push_cases}
@@ -12,7 +11,7 @@ use Rattle.c_prog.specs.Nodes.{first_node, nodes_of, functions_nodes}
 use Rattle.flow_graph.specs.Flow.{Way, Edge, Next, fn_id, size_of, parts_of, first_of, along, outermost, start_way, way_edges, edges_of, function_ways, ways_from, function_edges, tree_edges}
 use Rattle.flow_graph.specs.Paths.{Link, Path}
 use Rattle.flow_graph.proofs.NodeCounts.{size_is_nodes}
-use Rattle.flow_graph.proofs.Walks.{nothing_in}
+use Rattle.walks.proofs.Walks.{nothing_in}
 use Rattle.flow_graph.proofs.Within.{body_within}
 use Rattle.flow_graph.proofs.Joins.{link_within}
 use Rattle.flow_laws.specs.OwnPaths.{IsNodeOf, HasOwnPaths}

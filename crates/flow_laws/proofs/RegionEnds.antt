@@ -1,11 +1,11 @@
 -- A path splits at each of its nodes.
-use Rattle.std.proofs.Common.{◌≡◌, ℕ, List, [], ◌∷◌, false, inl, inr, refl, sym, subst}
+use Rattle.std.proofs.Common.{ℕ, List, [], ◌∷◌, false, inl, inr, refl, sym, subst}
 use Rattle.std.specs.List.{Contains}
 use Rattle.std.proofs.lemmas.List.Elements.{Contains-append_cases, Contains-push_cases}
 use Rattle.flow_graph.specs.Flow.{Edge}
 use Rattle.flow_graph.specs.Paths.{Path, Comes, OnPath}
 use Rattle.flow_graph.specs.Regions.{InRegion}
-use Rattle.flow_graph.proofs.Walks.{nothing_in}
+use Rattle.walks.proofs.Walks.{nothing_in}
 use Rattle.flow_laws.specs.RegionEnds.{HasEnds}
 
 module _ (edges : List Edge) where

@@ -49,6 +49,9 @@ library-none names scope (s.Lock at before amp m after) = refl
 library-none names scope (s.Unlock at before amp m after) = refl
 library-none names scope (s.Print at before text more after) = refl
 library-none names scope (s.Scan at before text comma amp x after) = refl
+library-none names scope (s.Wait at before amp1 c comma amp2 m after) = refl
+library-none names scope (s.Signal at before amp c after) = refl
+library-none names scope (s.Broadcast at before amp c after) = refl
 
 simple-even : (names : Names) (scope : Scope) (x : s.Simple) → length (simple_calls x) ≡ is_called (act_callee (simple_of names scope x))
 simple-even names scope (s.PlainPart p) = plain-none names scope p

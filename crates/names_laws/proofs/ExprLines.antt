@@ -216,6 +216,9 @@ library-even names scope (s.Scan at before text comma amp t after) =
       index-even names scope t,
       target-even names scope Write t,
     )
+library-even names scope (s.Wait at before amp1 c comma amp2 m after) = refl
+library-even names scope (s.Signal at before amp c after) = refl
+library-even names scope (s.Broadcast at before amp c after) = refl
 
 -- a simple statement that is no declaration
 pub simple-even : (names : Names) (scope : Scope) (x : s.Simple)

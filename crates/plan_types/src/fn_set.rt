@@ -1,5 +1,5 @@
-ghost use Rattle.std.specs.Prelude.{◌≡◌, ◌<◌, length, IfOk};
-ghost use Rattle.plan_types.specs.Sets.{no_numbers, is_in, with_number};
+ghost use Rattle.std.specs.Prelude.{◌≡◌, ◌<◌, ◌↔◌, length, IfOk, IsTrue};
+ghost use Rattle.plan_types.specs.Sets.{no_numbers, is_in, with_number, IsUnion, Meet};
 
 use crate::number_set::NumberSet;
 use cfix_base::{FnId, NoMemory};
@@ -21,6 +21,20 @@ impl Model for FnSet {
 }
 
 impl FnSet {
+    /// The functions with these numbers.
+    pub fn of(numbers: NumberSet) -> FnSet
+        ensures { result ≡ numbers }
+    {
+        FnSet { numbers }
+    }
+
+    /// Their numbers.
+    pub fn numbers(&self) -> &NumberSet
+        ensures { result.now ≡ self.now }
+    {
+        &self.numbers
+    }
+
     /// The empty set of this size.
     pub fn empty(alloc: Global, size: u32) -> Result<FnSet, NoMemory>
         ensures { IfOk result (λ set. set ≡ no_numbers size) }
@@ -49,5 +63,20 @@ impl FnSet {
         ensures { result ≡ length self.now }
     {
         self.numbers.size()
+    }
+
+    /// Adds the functions of another set of the same size. It takes no memory.
+    pub fn unite(&mut self, other: &FnSet)
+        requires { length self.old ≡ length other.now }
+        ensures { IsUnion self.old other.now self.new }
+    {
+        self.numbers.unite(&other.numbers);
+    }
+
+    /// Whether some function is in both sets.
+    pub fn meets(&self, other: &FnSet) -> bool
+        ensures { IsTrue result ↔ Meet self.now other.now }
+    {
+        self.numbers.meets(&other.numbers)
     }
 }

@@ -13,4 +13,5 @@ pub use bound::{Atom, Bound};
 pub use class::{Class, Classes};
 pub use fn_set::FnSet;
 pub use node_set::NodeSet;
+pub use number_set::NumberSet;
 pub use order_plan::OrderPlan;

@@ -177,6 +177,9 @@ plain-told names (act.Lock x) d spots = refl
 plain-told names (act.Unlock x) d spots = refl
 plain-told names (act.Print text args) d spots = refl
 plain-told names (act.Scan t) d spots = refl
+plain-told names (act.Wait c x) d spots = refl
+plain-told names (act.Signal c) d spots = refl
+plain-told names (act.Broadcast c) d spots = refl
 
 pub plain-derived : (names : Names) (a : Act) (spots : List Spot) → m.is_plain (plain_tree names a spots) ≡ true
 plain-derived names (act.Assign t how (value.Expr e)) spots =
@@ -194,6 +197,9 @@ plain-derived names (act.Lock x) spots = refl
 plain-derived names (act.Unlock x) spots = refl
 plain-derived names (act.Print text args) spots = refl
 plain-derived names (act.Scan t) spots = refl
+plain-derived names (act.Wait c x) spots = refl
+plain-derived names (act.Signal c) spots = refl
+plain-derived names (act.Broadcast c) spots = refl
 
 two-fits : (x : Sign) → ((text : List ℕ) → sign_stands (sign_text x) text ≡ true) → Fits (Is (IsSign x) ∷ [])
 two-fits x h None e = refl
@@ -229,3 +235,6 @@ plain-fits names (act.Lock x) = plus-plus
 plain-fits names (act.Unlock x) = plus-plus
 plain-fits names (act.Print text args) = plus-plus
 plain-fits names (act.Scan t) = plus-plus
+plain-fits names (act.Wait c x) = plus-plus
+plain-fits names (act.Signal c) = plus-plus
+plain-fits names (act.Broadcast c) = plus-plus

@@ -436,6 +436,7 @@ module _ (tree : Tree) (v : IsValid tree) (spots : List Spot) where
       (limits-append (files.variable_faults (ident_at g.name (later at))) (length_faults z (here (later at)) ++ []) (variable-clean g (later at) h)
       (limits-append (length_faults z (here (later at))) [] (limit-if (z == 0 || nat_lt MAX_ARRAY_LENGTH z) (here (later at))) refl)) refl
   global-clean g kind.Mutex at h = limits-append (files.variable_faults (ident_at g.name (later at))) [] (variable-clean g (later at) h) refl
+  global-clean g kind.Cond at h = limits-append (files.variable_faults (ident_at g.name (later at))) [] (variable-clean g (later at) h) refl
 
   globals-clean : (list : List Global) (at : List Spot) → Every GlobalFacts list → limits (each (top_faults known) (parts_tree (global_parts list) at)) ≡ true
   globals-clean [] at h = refl
@@ -632,6 +633,7 @@ module _ (tree : Tree) (v : IsValid tree) (spots : List Spot) where
   global-again name kind.Thread at = refl
   global-again name (kind.ThreadArray z) at = refl
   global-again name kind.Mutex at = refl
+  global-again name kind.Cond at = refl
 
   globals-again : (list : List Global) (at : List Spot) → each (top_globals known) (parts_tree (global_parts list) at) ≡ list
   globals-again [] at = refl
@@ -650,6 +652,7 @@ module _ (tree : Tree) (v : IsValid tree) (spots : List Spot) where
       by kind.Thread = refl
       by (kind.ThreadArray z) = refl
       by kind.Mutex = refl
+      by kind.Cond = refl
 
   prototype-nothing : {B : Type 0} (g : f.Top → List B) → ((h : f.Head) (end : Spot) → g (f.Prototype h end) ≡ []) → (main : Bool) (fn : Function) (rest : List Part) (at : List Spot)
       → ((next : List Spot) → each g (parts_tree rest next) ≡ []) → each g (parts_tree (prototype_by main fn ++ rest) at) ≡ []
@@ -721,6 +724,7 @@ module _ (tree : Tree) (v : IsValid tree) (spots : List Spot) where
       by kind.Thread = refl
       by (kind.ThreadArray z) = refl
       by kind.Mutex = refl
+      by kind.Cond = refl
 
   starts-prototype : (main : Bool) (fn : Function) (ps : List Part) (at : List Spot) (rest : f.File) → ((next : List Spot) → starts_of (parts_tree ps next ++ rest) ≡ starts_of rest)
       → starts_of (parts_tree (prototype_by main fn ++ ps) at ++ rest) ≡ starts_of rest

@@ -165,6 +165,7 @@ globals-from (x ∷ more) g spots rest table h =
     one kind.Thread = refl
     one (kind.ThreadArray z) = refl
     one kind.Mutex = refl
+    one kind.Cond = refl
 
 prototype-from : (main : Bool) (fn : Function) (rest : List Part) (g : ℕ) (spots : List Spot) (tail : f.File) (table : List Entry)
     → ((next : List Spot) → from g 0 (parts_tree rest next ++ tail) ≡ table) → from g 0 (parts_tree (prototype_by main fn ++ rest) spots ++ tail) ≡ table

@@ -94,6 +94,7 @@ global-text-by name (kind.IntArray n) = length-text (codes "int ") name n
 global-text-by name kind.Thread = append_assoc (codes "pthread_t ") name (codes ";")
 global-text-by name (kind.ThreadArray n) = length-text (codes "pthread_t ") name n
 global-text-by name kind.Mutex = simp append_assoc refl
+global-text-by name kind.Cond = simp append_assoc refl
 
 globals-text : (list : List Global) → map print.global_line list ≡ told (global_parts list)
 globals-text [] = refl

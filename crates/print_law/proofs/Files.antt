@@ -202,6 +202,8 @@ global_line name kind.Thread = Is (IsWord w.Thread) ∷ Gap ∷ Is (IsName name)
 global_line name (kind.ThreadArray n) = length_line w.Thread name n
 global_line name kind.Mutex =
     Is (IsWord w.Mutex) ∷ Gap ∷ Is (IsName name) ∷ Gap ∷ Is (IsSign s.Assign) ∷ Gap ∷ Is (IsWord w.MutexInitializer) ∷ Is (IsSign s.Semicolon) ∷ []
+global_line name kind.Cond =
+    Is (IsWord w.Cond) ∷ Gap ∷ Is (IsName name) ∷ Gap ∷ Is (IsSign s.Assign) ∷ Gap ∷ Is (IsWord w.CondInitializer) ∷ Is (IsSign s.Semicolon) ∷ []
 
 abbrev pub global_tree : List ℕ → GlobalKind → List Spot → f.Top
 global_tree name (kind.Int initial) spots =
@@ -218,6 +220,9 @@ global_tree name (kind.ThreadArray n) spots =
 global_tree name kind.Mutex spots =
     f.Variables [] (l.GlobalMutexes (here spots) (l.SetMutex (ident_at name (later spots)) (here (later (later spots))) (here (later (later (later spots))))) [])
     (here (later (later (later (later spots)))))
+global_tree name kind.Cond spots =
+    f.Variables [] (l.GlobalConds (here spots) (l.SetCond (ident_at name (later spots)) (here (later (later spots))) (here (later (later (later spots))))) [])
+    (here (later (later (later (later spots)))))
 
 global-law : (name : List ℕ) (k : GlobalKind) → Law (global_line name k ∷ []) (global_line name k) (global_tree name k)
 global-law name (kind.Int (pos n)) = plainly _ _ _ (λ spots. refl) refl refl (λ spots. refl) (λ spots. refl)
@@ -226,6 +231,7 @@ global-law name (kind.IntArray n) = plainly _ _ _ (λ spots. refl) refl refl (λ
 global-law name kind.Thread = plainly _ _ _ (λ spots. refl) refl refl (λ spots. refl) (λ spots. refl)
 global-law name (kind.ThreadArray n) = plainly _ _ _ (λ spots. refl) refl refl (λ spots. refl) (λ spots. refl)
 global-law name kind.Mutex = plainly _ _ _ (λ spots. refl) refl refl (λ spots. refl) (λ spots. refl)
+global-law name kind.Cond = plainly _ _ _ (λ spots. refl) refl refl (λ spots. refl) (λ spots. refl)
 
 -- heads
 

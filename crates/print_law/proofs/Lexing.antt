@@ -111,6 +111,11 @@ word-facts w.Join = record { identifier = refl; is_word = refl }
 word-facts w.Lock = record { identifier = refl; is_word = refl }
 word-facts w.Unlock = record { identifier = refl; is_word = refl }
 word-facts w.MutexInitializer = record { identifier = refl; is_word = refl }
+word-facts w.Cond = record { identifier = refl; is_word = refl }
+word-facts w.CondWait = record { identifier = refl; is_word = refl }
+word-facts w.Signal = record { identifier = refl; is_word = refl }
+word-facts w.Broadcast = record { identifier = refl; is_word = refl }
+word-facts w.CondInitializer = record { identifier = refl; is_word = refl }
 word-facts w.Enter = record { identifier = refl; is_word = refl }
 word-facts w.Leave = record { identifier = refl; is_word = refl }
 word-facts w.Wait = record { identifier = refl; is_word = refl }

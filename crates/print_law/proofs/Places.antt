@@ -62,6 +62,9 @@ no-step-names (act.Lock x) h = refl
 no-step-names (act.Unlock x) h = refl
 no-step-names (act.Print text args) h = refl
 no-step-names (act.Scan t) h = refl
+no-step-names (act.Wait c x) h = refl
+no-step-names (act.Signal c) h = refl
+no-step-names (act.Broadcast c) h = refl
 
 step-names : (step : Option Step) → formed_step step ≡ true → step_names step ≡ []
 step-names None h = refl
@@ -124,6 +127,9 @@ simple-count names (act.Lock x) spots end ops last = refl
 simple-count names (act.Unlock x) spots end ops last = refl
 simple-count names (act.Print text args) spots end ops last = refl
 simple-count names (act.Scan t) spots end ops last = refl
+simple-count names (act.Wait c x) spots end ops last = refl
+simple-count names (act.Signal c) spots end ops last = refl
+simple-count names (act.Broadcast c) spots end ops last = refl
 
 loop-count : (names : Names) (cond : Cond) (step : Option Step) (body : List Spot → t.Stmt) (k : ℕ) → ((spots : List Spot) → stmt_locals (body spots) ≡ k)
     → (spots : List Spot) → stmt_locals (loop_tree names cond step body spots) ≡ k
@@ -198,6 +204,9 @@ act-count (act.Lock x) = refl
 act-count (act.Unlock x) = refl
 act-count (act.Print text args) = refl
 act-count (act.Scan t) = refl
+act-count (act.Wait c x) = refl
+act-count (act.Signal c) = refl
+act-count (act.Broadcast c) = refl
 
 abbrev part_count : Part → ℕ
 part_count part = own_count part.declares + part.inside
@@ -242,6 +251,9 @@ module _ (file : File) where
   simple-after names (act.Unlock x) scope spots end ops last = refl
   simple-after names (act.Print text args) scope spots end ops last = refl
   simple-after names (act.Scan t) scope spots end ops last = refl
+  simple-after names (act.Wait c x) scope spots end ops last = refl
+  simple-after names (act.Signal c) scope spots end ops last = refl
+  simple-after names (act.Broadcast c) scope spots end ops last = refl
 
   -- a statement that declares nothing in its own block
   inner-after : (names : Names) (s : Stmt) (scope : Scope) (part : Part) (spots : List Spot) → part_of file (up_stmt s) ≡ part → part.declares ≡ None
@@ -339,6 +351,9 @@ act-form file scope (act.Lock x) v = refl
 act-form file scope (act.Unlock x) v = refl
 act-form file scope (act.Print text args) v = refl
 act-form file scope (act.Scan t) v = refl
+act-form file scope (act.Wait c x) v = refl
+act-form file scope (act.Signal c) v = refl
+act-form file scope (act.Broadcast c) v = refl
 
 step-form : (file : File) (scope : Scope) (step : Option Step) → is_valid_step file scope step ≡ true → formed_step step ≡ true
 step-form file scope None v = refl
@@ -416,6 +431,9 @@ known-act names file scope (act.Lock x) v known place = known
 known-act names file scope (act.Unlock x) v known place = known
 known-act names file scope (act.Print text args) v known place = known
 known-act names file scope (act.Scan t) v known place = known
+known-act names file scope (act.Wait c x) v known place = known
+known-act names file scope (act.Signal c) v known place = known
+known-act names file scope (act.Broadcast c) v known place = known
 
 known-inner : (names : Names) (scope : Scope) (part found : Part) → found ≡ part → part.declares ≡ None → AllKnown names (visible scope) → AllKnown names (visible (after found scope))
 known-inner names scope part found e none known =

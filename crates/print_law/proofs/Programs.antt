@@ -129,6 +129,7 @@ global-ok name (kind.IntArray k) rest d v r = both _ _ (declared-name name d) (b
 global-ok name kind.Thread rest d v r = both _ _ (declared-name name d) r
 global-ok name (kind.ThreadArray k) rest d v r = both _ _ (declared-name name d) (both _ _ (number-ok k v) r)
 global-ok name kind.Mutex rest d v r = both _ _ (declared-name name d) r
+global-ok name kind.Cond rest d v r = both _ _ (declared-name name d) r
 
 globals-ok : (list : List Global) → list_all is_declared_name (map (λ g. g.name) list) ≡ true → list_all (λ global. is_valid_global global.kind) list ≡ true → items_ok (parts_items (global_parts list)) ≡ true
 globals-ok [] d v = refl

@@ -167,8 +167,14 @@ create_tree names t f e spots =
 abbrev join_end : List Item
 join_end = Is (IsSign s.Comma) ∷ Gap ∷ Is (IsWord w.Null) ∷ Is (IsSign s.CloseParen) ∷ []
 
+-- a call on a mutex or a condition variable
 abbrev lock_items : Word → List ℕ → List Item
 lock_items x name = Is (IsWord x) ∷ Is (IsSign s.OpenParen) ∷ Is (IsSign s.Ampersand) ∷ Is (IsName name) ∷ Is (IsSign s.CloseParen) ∷ []
+
+abbrev wait_items : List ℕ → List ℕ → List Item
+wait_items cond mutex =
+    Is (IsWord w.CondWait) ∷ Is (IsSign s.OpenParen) ∷ Is (IsSign s.Ampersand) ∷ Is (IsName cond) ∷ Is (IsSign s.Comma) ∷ Gap ∷ Is (IsSign s.Ampersand)
+    ∷ Is (IsName mutex) ∷ Is (IsSign s.CloseParen) ∷ []
 
 -- the items of a simple statement
 abbrev pub act_items : Names → Act → List Item
@@ -187,6 +193,9 @@ act_items names (act.Print text args) =
 act_items names (act.Scan t) =
     Is (IsWord w.Scanf) ∷ Is (IsSign s.OpenParen) ∷ Is (IsQuoted (codes "%d")) ∷ Is (IsSign s.Comma) ∷ Gap ∷ Is (IsSign s.Ampersand)
     ∷ (target_items names t ++ Is (IsSign s.CloseParen) ∷ [])
+act_items names (act.Wait c x) = wait_items (name_at names.globals c.number) (name_at names.globals x.number)
+act_items names (act.Signal c) = lock_items w.Signal (name_at names.globals c.number)
+act_items names (act.Broadcast c) = lock_items w.Broadcast (name_at names.globals c.number)
 
 abbrev text_at : List ℕ → List Spot → Text
 text_at bytes spots = record { bytes = bytes; spot = here spots }
@@ -217,6 +226,16 @@ act_made names (act.Scan t) spots =
     Simply (m.LibraryPart (m.Scan (here spots) (here (later spots)) (text_at (codes "%d") (later (later spots))) (here (later (later (later spots))))
     (here (later (later (later (later spots))))) (target_tree names t (later (later (later (later (later spots))))))
     (here (after (later (later (later (later (later spots))))) (target_items names t)))))
+act_made names (act.Wait c x) spots =
+    let second = later (later (later (later spots))) in
+    Simply (m.LibraryPart (m.Wait (here spots) (here (later spots)) (here (later (later spots))) (ident_at (name_at names.globals c.number) (later (later (later spots))))
+    (here second) (here (later second)) (ident_at (name_at names.globals x.number) (later (later second))) (here (later (later (later second))))))
+act_made names (act.Signal c) spots =
+    Simply (m.LibraryPart (m.Signal (here spots) (here (later spots)) (here (later (later spots))) (ident_at (name_at names.globals c.number) (later (later (later spots))))
+    (here (later (later (later (later spots)))))))
+act_made names (act.Broadcast c) spots =
+    Simply (m.LibraryPart (m.Broadcast (here spots) (here (later spots)) (here (later (later spots))) (ident_at (name_at names.globals c.number) (later (later (later spots))))
+    (here (later (later (later (later spots)))))))
 
 create-told : (names : Names) (t : Target) (f : ℕ) (e : Expr) (d : ℕ) (spots : List Spot)
     → tokens (m.library_marks d (create_tree names t f e spots)) ≡ spotted spots (create_items names t f e)
@@ -256,6 +275,9 @@ act-told names (act.Scan t) d spots =
     ap (λ z. word w.Scanf (here spots) ∷ sign s.OpenParen (here (later spots)) ∷ quoted (text_at (codes "%d") (later (later spots)))
     ∷ sign s.Comma (here (later (later (later spots)))) ∷ sign s.Ampersand (here (later (later (later (later spots))))) ∷ z)
     (joint start (target_items names t) (Is (IsSign s.CloseParen) ∷ []) (m.target_marks d (target_tree names t start)) _ (target-told names t d start) refl)
+act-told names (act.Wait c x) d spots = refl
+act-told names (act.Signal c) d spots = refl
+act-told names (act.Broadcast c) d spots = refl
 
 pub act-derived : (names : Names) (a : Act) (spots : List Spot) → is_made (act_made names a spots) ≡ true
 act-derived names (act.Declare name kind initial) spots = declared-good names name kind initial spots
@@ -273,6 +295,9 @@ act-derived names (act.Lock x) spots = refl
 act-derived names (act.Unlock x) spots = refl
 act-derived names (act.Print text args) spots = more-derived names args (later (later (later spots)))
 act-derived names (act.Scan t) spots = target-derived names t (later (later (later (later (later spots)))))
+act-derived names (act.Wait c x) spots = refl
+act-derived names (act.Signal c) spots = refl
+act-derived names (act.Broadcast c) spots = refl
 
 -- whether a simple statement has a form of the grammar
 abbrev pub is_set : How → Bool
@@ -312,6 +337,10 @@ create-shape : (t f a : List ℕ)
     ≡ codes "pthread_create(&" ++ (t ++ (codes ", NULL, " ++ (f ++ (codes ", " ++ (a ++ codes ")")))))
 create-shape t f a = simp append_assoc refl
 
+wait-shape : (c x : List ℕ)
+    → codes "pthread_cond_wait(&" ++ c ++ codes ", &" ++ x ++ codes ")" ≡ codes "pthread_cond_wait(&" ++ (c ++ (codes ", &" ++ (x ++ codes ")")))
+wait-shape c x = simp append_assoc refl
+
 pub act-text : (names : Names) (a : Act) → act_form a ≡ true → act_text names a ≡ spelled (act_items names a)
 act-text names (act.Declare name kind initial) h = declared-text names name kind initial h
 act-text names (act.Assign t how (value.Expr e)) h = assign-text names t (sign_for how) (how_sign how) (expr_text names e) (items_of names e) (how-is how) (text-of names e)
@@ -339,6 +368,9 @@ act-text names (act.Print text args) h =
 act-text names (act.Scan t) h =
     append_assoc (codes "scanf(" ++ pieces.quoted (codes "%d") ++ codes ", &") (target_text names t) (codes ")")
     ∙ ap (λ z. codes "scanf(" ++ pieces.quoted (codes "%d") ++ codes ", &" ++ z) (behind-text names t (Is (IsSign s.CloseParen) ∷ []) (codes ")") refl)
+act-text names (act.Wait c x) h = wait-shape (name_at names.globals c.number) (name_at names.globals x.number)
+act-text names (act.Signal c) h = append_assoc (codes "pthread_cond_signal(&") (name_at names.globals c.number) (codes ")")
+act-text names (act.Broadcast c) h = append_assoc (codes "pthread_cond_broadcast(&") (name_at names.globals c.number) (codes ")")
 
 amp-fits : (names : Names) (t : Target) (back : List Item) (next : Option Item) → ends (first back next) ≡ true → fits back next ≡ true
     → fits (Is (IsSign s.Ampersand) ∷ (target_items names t ++ back)) next ≡ true
@@ -365,3 +397,6 @@ act-fits names (act.Lock x) next h = closed-paren next h
 act-fits names (act.Unlock x) next h = closed-paren next h
 act-fits names (act.Print text args) next h = both _ _ (quoted-apart text (first (more_items names args ++ Is (IsSign s.CloseParen) ∷ []) next)) (more-fits names args next h)
 act-fits names (act.Scan t) next h = amp-fits names t (Is (IsSign s.CloseParen) ∷ []) next refl (closed-paren next h)
+act-fits names (act.Wait c x) next h = closed-paren next h
+act-fits names (act.Signal c) next h = closed-paren next h
+act-fits names (act.Broadcast c) next h = closed-paren next h

@@ -23,10 +23,10 @@ use Rattle.c_prog.specs.declared.expr.Expr.TheVariants as expr
 use Rattle.c_prog.specs.declared.expr.Target.{Target}
 use Rattle.c_prog.specs.declared.expr.Var.TheVariants as var
 use Rattle.c_prog.specs.declared.stmt.Cond.{Cond}
-use Rattle.c_prog.specs.Valid.Scope.{VarKind, int, mutex, Scope, visible, local_named, is_in_block, declared}
+use Rattle.c_prog.specs.Valid.Scope.{VarKind, int, mutex, cond as condition, Scope, visible, local_named, is_in_block, declared}
 use Rattle.c_prog.specs.Valid.Kinds.{Signature, File, local_var_kind, kind_here, function_here}
 use Rattle.c_prog.specs.Valid.Expressions as valid
-use Rattle.c_prog.specs.Valid.Expressions.{is_valid_expr, is_mutex, is_thread_kind, is_int_use, is_thread_use}
+use Rattle.c_prog.specs.Valid.Expressions.{is_valid_expr, is_mutex, is_cond, is_thread_kind, is_int_use, is_thread_use}
 use Rattle.c_prog.specs.Valid.Acts.{is_declared_name, is_valid_kind, is_valid_initial, is_valid_assigned, is_valid_act, is_step}
 use Rattle.c_prog.specs.Valid.Operations.{op_number, are_valid_ops, has_valid_cond}
 use Rattle.c_prog.specs.Valid.Strings.{directives, directives_left, is_count, is_string}
@@ -45,7 +45,7 @@ use Rattle.c_names.specs.Uses as n
 use Rattle.c_names.specs.Names.{reserved_faults, use_faults, declare_faults, length_faults}
 use Rattle.c_names.specs.Strings.{pairs_from, is_number_pair, is_other_pair, numbers_in, has_other}
 use Rattle.c_names.specs.Expressions.{expr_faults, int_target_faults, thread_target_faults, call_faults, value_faults}
-use Rattle.c_names.specs.Simples.{op_faults, ops_faults, more_ops_faults, plain_faults, thread_arg_faults, is_thread_function_use, created_faults, mutex_faults, printf_faults, simple_faults}
+use Rattle.c_names.specs.Simples.{op_faults, ops_faults, more_ops_faults, plain_faults, thread_arg_faults, is_thread_function_use, created_faults, mutex_faults, cond_faults as condition_faults, printf_faults, simple_faults}
 use Rattle.c_names.specs.Statements.{guard_faults, cond_faults, decl_faults}
 use Rattle.c_names.specs.SpelledExpressions.{expr_of, target_of, call_of, plain_of, thread_arg_of, simple_of}
 use Rattle.c_names.specs.SpelledStatements.{op_of, ops_of, more_ops_of, guard_of, cond_of, decl_of}
@@ -359,6 +359,9 @@ module _ (names : Names) (known : n.Names) (file : File) (facts : FileFacts name
     spelt-step (act.Unlock x) st v = absurd (true≢false (sym st))
     spelt-step (act.Print text args) st v = absurd (true≢false (sym st))
     spelt-step (act.Scan t) st v = absurd (true≢false (sym st))
+    spelt-step (act.Wait c x) st v = absurd (true≢false (sym st))
+    spelt-step (act.Signal c) st v = absurd (true≢false (sym st))
+    spelt-step (act.Broadcast c) st v = absurd (true≢false (sym st))
 
   own : (text : List ℕ) → local_named text scope ≡ local_named text scope
   own text = refl
@@ -512,6 +515,20 @@ module _ (names : Names) (known : n.Names) (file : File) (facts : FileFacts name
       let name = name_at names.globals x.number in
       name-alone (ident_at name spots) (n.use_of known scope name) (var.Global x) mutex (λ found. is_mutex (n.kind_of found)) u.declared u.stands refl
 
+  cond-kind : (o : Option VarKind) → is_cond o ≡ true → o ≡ Some condition
+  cond-kind (Some condition) e = refl
+  cond-kind None e = absurd (true≢false (sym e))
+  cond-kind (Some _) e = absurd (true≢false (sym e))
+
+  cond-use : (x : VarId) → is_cond (kind_here file scope (var.Global x)) ≡ true → VarUse names known scope (var.Global x) condition
+  cond-use x h = var-use names known file facts scope locals scope own (var.Global x) condition (cond-kind (kind_here file scope (var.Global x)) h)
+
+  condition-clean : (x : VarId) (spots : List Spot) → is_cond (kind_here file scope (var.Global x)) ≡ true → limits (condition_faults known scope (ident_at (name_at names.globals x.number) spots)) ≡ true
+  condition-clean x spots h =
+      let u = cond-use x h in
+      let name = name_at names.globals x.number in
+      name-alone (ident_at name spots) (n.use_of known scope name) (var.Global x) condition (λ found. is_cond (n.kind_of found)) u.declared u.stands refl
+
   abbrev pub Next : Act → Type 0
   Next (act.Declare name k initial) = DeclaresNext name
   Next _ = Unit {0}
@@ -614,4 +631,34 @@ module _ (names : Names) (known : n.Names) (file : File) (facts : FileFacts name
         ok = ok-append (target_items names t) _ ts.ok refl;
         again = λ spots. ap (λ z. act.Scan z ∷ []) (ts.again (later (later (later (later (later spots))))));
         clean = λ spots. ts.clean (later (later (later (later (later spots)))));
+      }
+  spelt-act (act.Wait c x) v next =
+      let vs = and_parts (is_cond (kind_here file scope (var.Global c))) (is_mutex (kind_here file scope (var.Global x))) v in
+      let uc = cond-use c vs.0 in
+      let ux = mutex-use x vs.1 in
+      record {
+        form = refl;
+        ok = both _ _ (declared-name (name_at names.globals c.number) uc.declared) (both _ _ (declared-name (name_at names.globals x.number) ux.declared) refl);
+        again = λ spots.
+            ap (λ z. act.Wait (record { number = n.global_number z }) (record { number = n.global_number (n.use_of known scope (name_at names.globals x.number)) }) ∷ []) uc.stands
+            ∙ ap (λ z. act.Wait c (record { number = n.global_number z }) ∷ []) ux.stands;
+        clean = λ spots.
+            limits-append (condition_faults known scope (ident_at (name_at names.globals c.number) (later (later (later spots))))) _ (condition-clean c (later (later (later spots))) vs.0)
+            (mutex-clean x (later (later (later (later (later (later spots)))))) vs.1);
+      }
+  spelt-act (act.Signal c) v next =
+      let u = cond-use c v in
+      record {
+        form = refl;
+        ok = both _ _ (declared-name (name_at names.globals c.number) u.declared) refl;
+        again = λ spots. ap (λ z. act.Signal (record { number = n.global_number z }) ∷ []) u.stands;
+        clean = λ spots. condition-clean c (later (later (later spots))) v;
+      }
+  spelt-act (act.Broadcast c) v next =
+      let u = cond-use c v in
+      record {
+        form = refl;
+        ok = both _ _ (declared-name (name_at names.globals c.number) u.declared) refl;
+        again = λ spots. ap (λ z. act.Broadcast (record { number = n.global_number z }) ∷ []) u.stands;
+        clean = λ spots. condition-clean c (later (later (later spots))) v;
       }

@@ -231,6 +231,9 @@ module _ (names : Names) (known : n.Names) (file : File) (facts : FileFacts name
   act-next scope locals (act.Unlock x) p = tt
   act-next scope locals (act.Print text args) p = tt
   act-next scope locals (act.Scan target) p = tt
+  act-next scope locals (act.Wait c x) p = tt
+  act-next scope locals (act.Signal c) p = tt
+  act-next scope locals (act.Broadcast c) p = tt
 
   spelt-simple : (around : Around) (scope : Scope) (a : Act) (ops : List Op) → is_valid_act file scope a ≡ true → are_valid_ops ops ≡ true → AllKnown names (visible scope)
       → Place names scope.count (act_names a) → SpeltStmt around scope (Simple a ops)

@@ -235,6 +235,9 @@ step-act-text names (act.Lock x) h = absurd (true≢false (sym h))
 step-act-text names (act.Unlock x) h = absurd (true≢false (sym h))
 step-act-text names (act.Print text args) h = absurd (true≢false (sym h))
 step-act-text names (act.Scan t) h = absurd (true≢false (sym h))
+step-act-text names (act.Wait c x) h = absurd (true≢false (sym h))
+step-act-text names (act.Signal c) h = absurd (true≢false (sym h))
+step-act-text names (act.Broadcast c) h = absurd (true≢false (sym h))
 
 more-ops-text : (ops : List Op) → joined (map (λ op. codes ", " ++ op_text op) ops) ≡ spelled (more_ops_items ops)
 more-ops-text [] = refl

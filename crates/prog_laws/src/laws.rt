@@ -1,6 +1,8 @@
 ghost use Rattle.std.specs.Prelude.{◌≡◌, ◌<◌, ◌↔◌, ℕ, false, slice_get, Some, IsSome};
+ghost use Rattle.cfix_base.specs.declared.mark.Marks.{Marks};
 ghost use Rattle.cfix_base.specs.declared.number.NodeId.{NodeId};
 ghost use Rattle.c_prog.specs.Accesses.{accesses};
+ghost use Rattle.c_prog.specs.Marks.{all_new};
 ghost use Rattle.c_prog.specs.Nodes.{tree_nodes};
 ghost use Rattle.c_prog.specs.Order.{node_at};
 ghost use Rattle.c_prog.specs.Patched.{tree_patched};
@@ -23,12 +25,13 @@ pub fn accesses_count_from_zero()
 
 /// To strip a program twice is to strip it once.
 pub fn stripping_twice_is_stripping_once()
-    ensures { (tree : Tree) → strip_tree (strip_tree tree) ≡ strip_tree tree }
+    ensures { (m : Marks) (tree : Tree) → strip_tree m (strip_tree m tree) ≡ strip_tree m tree }
 {}
 
-/// A stripped program has no operation at any place, and no order that begins with a token.
+/// A program without all operations from the marks 0 and 0 on has no operation at any place, and no
+/// order that begins with a token.
 pub fn a_stripped_program_has_no_operation()
-    ensures { (tree : Tree) → IsBare (strip_tree tree) }
+    ensures { (tree : Tree) → IsBare (strip_tree all_new tree) }
 {}
 
 /// A program is not patched exactly where no operation stands at any of its places, and no order
@@ -39,10 +42,10 @@ pub fn a_program_is_patched_where_an_operation_stands()
 
 /// A stripped program has as many nodes as before.
 pub fn stripping_keeps_the_nodes()
-    ensures { (tree : Tree) → tree_nodes (strip_tree tree) ≡ tree_nodes tree }
+    ensures { (m : Marks) (tree : Tree) → tree_nodes (strip_tree m tree) ≡ tree_nodes tree }
 {}
 
 /// Each node of a stripped program makes the accesses that it made before.
 pub fn stripping_keeps_the_accesses()
-    ensures { (tree : Tree) (node : NodeId) → accesses (strip_tree tree) node ≡ accesses tree node }
+    ensures { (m : Marks) (tree : Tree) (node : NodeId) → accesses (strip_tree m tree) node ≡ accesses tree node }
 {}

@@ -5,7 +5,8 @@ use Rattle.std.proofs.lemmas.Bool.{false≢true, cases_eq}
 use Rattle.std.proofs.lemmas.Bool.Decides.{eqb_tells}
 use Rattle.std.proofs.lemmas.List.Elements.{Contains-append_left, Contains-append_right, Contains-append_cases, Contains-push, Contains-push_cases}
 use Rattle.flow_graph.specs.Flow.{Edge}
-use Rattle.flow_graph.specs.Paths.{Path, Clear, IsReach, IsBack, Avoids, OnPath}
+use Rattle.flow_graph.specs.Paths.{Path, IsReach, IsBack, Avoids, OnPath}
+use Rattle.walks.specs.Walks.{Clear}
 use Rattle.plan_types.specs.Sets.{is_in, IsIn}
 use Rattle.plan_types.proofs.Sets.{IsIn-below}
 use Rattle.regions.specs.Between.{one_number, two_numbers, is_between, IsGathered}

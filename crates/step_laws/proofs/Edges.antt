@@ -112,8 +112,8 @@ module _ (c : Code) where
   edges_framed : (input : List ℤ) → Framed c StandsAt Any (start c input)
   edges_framed input = record { at = first }
     where
-      first : (t : ℕ) (th : Thread) → slice_get (thread_of (frame_of c 0 c.main []) ∷ []) t ≡ Some th → ThreadFrames c StandsAt Any 1 t th
-      first zero th is = subst (ThreadFrames c StandsAt Any 1 0) (some_same (thread_of (frame_of c 0 c.main [])) th is) (arrived c (Start (frame_of c 0 c.main []).of), tt)
+      first : (t : ℕ) (th : Thread) → slice_get (thread_of c (frame_of c 0 c.main []) ∷ []) t ≡ Some th → ThreadFrames c StandsAt Any 1 t th
+      first zero th is = subst (ThreadFrames c StandsAt Any 1 0) (some_same (thread_of c (frame_of c 0 c.main [])) th is) (arrived c (Start (frame_of c 0 c.main []).of), tt)
       first (suc t) th is = cc
 
   all_good : (ms : List Seen) → AllOf (GoodStep c StandsAt Any) ms

@@ -31,7 +31,7 @@ use Rattle.step_state.specs.Code.{Code}
 use Rattle.step_state.specs.Values.{last_value, other_values, last_values, past_index, index_value, is_zero}
 use Rattle.step_state.specs.Changes.{Made, with_frames, with_thread, with_top_frame, with_values, with_work, pass, frame_of, thread_of}
 use Rattle.step_state.specs.Reduce.{Reduced, frame, trap, reduce, reduced}
-use Rattle.step_state.specs.Act.{act, fetched, written, taken, locked, unlocked, created, joined_ended, joined_once, joined_some, joined_number, joined_at, local_handles}
+use Rattle.step_state.specs.Act.{act, fetched, written, taken, locked, unlocked, created, joined_ended, joined_once, joined_some, joined_number, joined_at, local_handles, slept, woken}
 use Rattle.step_state.specs.Operate.{enter, leave, wait, operate, token_taken}
 use Rattle.step_state.specs.Step.{branch_place, leave_frame, go, work_step, frames_step, thread_step, unended_step, step}
 use Rattle.step_state.specs.Run.{Seen, Ran, frames_at, add_seen, go_on, run_from}
@@ -229,6 +229,15 @@ module _ (c : Code) (P : ℕ → ℕ → Frame → List Frame → Type 0) (Good 
         unlocked_framed m true = λ good. top_framed _ (acted f.values _ good)
         unlocked_framed m false = λ good. framed
 
+        slept_framed : (v m : VarId) (own : Bool) → KeptAt e (f ∷ below) (slept s e.thread th (with_work f rest) below v m own)
+        slept_framed v m true = λ good. top_framed _ (acted f.values _ good)
+        slept_framed v m false = λ good. framed
+
+        woken_framed : (v m : VarId) (asleep : Bool) (o : Option ℕ) → KeptAt e (f ∷ below) (woken s e.thread th (with_work f rest) below v m asleep o)
+        woken_framed v m true o = tt
+        woken_framed v m false (Some u) = tt
+        woken_framed v m false None = λ good. top_framed _ (acted f.values _ good)
+
         ended_framed : (vs : List ℤ) (n : ℕ) (other : Thread) (fs : List Frame) → slice_get s.threads n ≡ Some other
             → KeptAt e (f ∷ below) (joined_ended s e.thread th (with_values (with_work f rest) vs) below n other fs)
         ended_framed vs n other [] stands =
@@ -262,7 +271,7 @@ module _ (c : Code) (P : ℕ → ℕ → Frame → List Frame → Type 0) (Good 
           let hs = local_handles s (with_work f rest) target.var i (length s.threads) in
           let top : Frame = record (with_work f rest) { values = vs; handles = hs } in
           let kept : P s.made e.thread top below = keep.acted s.made e.thread f below (action.Create target g) rest vs hs (event.Create (length s.threads)) at good here.0 in
-          each_push (ThreadFrames (s.made + 1)) (set s.threads e.thread (with_frames th (top ∷ below))) (thread_of (frame_of c s.made g.number (arg ∷ [])))
+          each_push (ThreadFrames (s.made + 1)) (set s.threads e.thread (with_frames th (top ∷ below))) (thread_of c (frame_of c s.made g.number (arg ∷ [])))
           (set_later s.made s.threads e.thread (with_frames th (top ∷ below)) framed
           (keep.later s.made e.thread top below kept, all_later s.made e.thread below here.1)) (
             keep.created s.made e.thread _ f below target g rest (arg ∷ []) at
@@ -296,6 +305,10 @@ module _ (c : Code) (P : ℕ → ℕ → Frame → List Frame → Type 0) (Good 
       act_framed (action.Join target) rest at = joined_framed (action.Join target) rest at (past_index target.indexed f.values) _
       act_framed (action.Print n args) rest at = λ good. top_framed _ (acted (action.Print n args) rest at (drop args f.values) _ good)
       act_framed (action.Call g) rest at = called_framed g rest at
+      act_framed (action.Sleep v m) rest at = slept_framed (action.Sleep v m) rest at v m _
+      act_framed (action.Wake v m) rest at = woken_framed (action.Wake v m) rest at v m _ _
+      act_framed (action.Signal v) rest at = λ good. top_framed _ (acted (action.Signal v) rest at f.values _ good)
+      act_framed (action.Broadcast v) rest at = λ good. top_framed _ (acted (action.Broadcast v) rest at f.values _ good)
 
       left_framed : (rest : List Item) (v : ℤ) (fs : List Frame) → f.work ≡ item.Go move.Exit ∷ rest → below ≡ fs
           → KeptAt e (f ∷ below) (leave_frame s e.thread th v fs)

@@ -22,10 +22,11 @@ use Rattle.step_state.specs.declared.thread.Thread.{Thread}
 use Rattle.step_state.specs.declared.state.Configuration.{Configuration}
 use Rattle.step_state.specs.Code.{Code}
 use Rattle.step_state.specs.Counts.{IsBounded, IsCounted, max_steps}
-use Rattle.step_state.specs.Changes.{Made, put_at, with_frames, with_values, with_work, thread_of, frame_of}
+use Rattle.step_state.specs.Changes.{Made, with_frames, with_values, with_work, thread_of, frame_of}
 use Rattle.step_state.specs.Reduce.{Reduced, frame, trap, reduced, reduce}
 use Rattle.step_state.specs.Values.{index_value, last_value, other_values, past_index}
-use Rattle.step_state.specs.Act.{global_cell, handle_at, holds, fetched, written, taken, locked, unlocked, created, joined_at, joined_number, joined_some, joined_once, joined_ended, act}
+use Rattle.step_state.specs.Act.{global_cell, handle_at, holds, fetched, written, taken, locked, unlocked, created, joined_at, joined_number, joined_some, joined_once, joined_ended, slept, woken, act}
+use Rattle.step_state.specs.Sleepers.{sleepers_of, sleeps}
 use Rattle.step_state.specs.Operate.{enter, wait, leave, token_taken, operate, may_enter, no_token}
 use Rattle.step_state.specs.Start.{initial_tokens, start}
 use Rattle.step_state.specs.Step.{go, leave_frame, work_step, frames_step, thread_step}
@@ -46,15 +47,6 @@ zeros : (n i : ℕ) → ◌≡◌ {A = ℕ} (get_or (replicate n 0) i 0) 0
 zeros zero i = refl
 zeros (suc n) zero = refl
 zeros (suc n) (suc i) = zeros n i
-
-fill_same : (xs : List ℕ) (n i : ℕ) → get_or (xs ++ replicate n 0) i 0 ≡ get_or xs i 0
-fill_same [] n i = zeros n i
-fill_same (x ∷ xs) n zero = refl
-fill_same (x ∷ xs) n (suc i) = fill_same xs n i
-
-put_below : (xs : List ℕ) (k v m : ℕ) → Below m xs → v ≤ m → Below m (put_at 0 xs k v)
-put_below xs k v m h e =
-    set_below (xs ++ replicate (k + 1 - length xs) 0) k v m (λ i. omega (arith, fill_same xs (k + 1 - length xs) i, h i)) e
 
 -- what is read in a list that was changed, or is longer by one
 get_set : {X : Type 0} (xs : List X) (t u : ℕ) (x y : X) → slice_get (set xs t x) u ≡ Some y → (y ≡ x) ⊎ (slice_get xs u ≡ Some y)
@@ -177,13 +169,22 @@ unlocked_keeps : (n : ℕ) (s : Configuration) (t : ℕ) (th : Thread) (f : Fram
 unlocked_keeps n s t th f below m true b i l = top_keeps n s t th f below b i l
 unlocked_keeps n s t th f below m false b i l = trapped_keeps n s b
 
-new_thread : (n : ℕ) (f : Frame) → IsBounded (n + 1) (thread_of f)
-new_thread n f = record { frames = omega arith; held = λ k. omega arith; missed = λ k. omega arith }
+slept_keeps : (n : ℕ) (s : Configuration) (t : ℕ) (th : Thread) (f : Frame) (below : List Frame) (v m : VarId) (h : Bool) → BoundsOf n s → IsBounded n th → suc (length below) ≤ n + 1 → Kept n (slept s t th f below v m h)
+slept_keeps n s t th f below v m true b i l = top_keeps n s t th f below b i l
+slept_keeps n s t th f below v m false b i l = trapped_keeps n s b
+
+woken_keeps : (n : ℕ) (s : Configuration) (t : ℕ) (th : Thread) (f : Frame) (below : List Frame) (v m : VarId) (h : Bool) (o : Option ℕ) → BoundsOf n s → IsBounded n th → suc (length below) ≤ n + 1 → Kept n (woken s t th f below v m h o)
+woken_keeps n s t th f below v m true o b i l = tt
+woken_keeps n s t th f below v m false (Some u) b i l = tt
+woken_keeps n s t th f below v m false None b i l = top_keeps n s t th f below b i l
+
+new_thread : (c : Code) (n : ℕ) (f : Frame) → IsBounded (n + 1) (thread_of c f)
+new_thread c n f = record { frames = omega arith; held = λ k. omega (arith, zeros c.locks k); missed = λ k. omega (arith, zeros c.locks k) }
 
 created_keeps : (c : Code) (n : ℕ) (s : Configuration) (t : ℕ) (th : Thread) (f : Frame) (below : List Frame) (target : HandleSite) (of : FnId) (x : ℤ) (vs : List ℤ) (arg : ℤ) (o : Option ℕ) → BoundsOf n s → IsBounded n th → suc (length below) ≤ n + 1 → Kept n (created c s t th f below target of x vs arg o)
 created_keeps c n s t th f below target of x vs arg None b i l = trapped_keeps n s b
 created_keeps c n s t th f below target of x vs arg (Some old) b i l =
-    push_one n s.made s.threads s.tokens t _ _ b (framed n th (_ ∷ below) i (omega (arith, l))) (new_thread n _)
+    push_one n s.made s.threads s.tokens t _ _ b (framed n th (_ ∷ below) i (omega (arith, l))) (new_thread c n _)
 
 ended_keeps : (n : ℕ) (s : Configuration) (t : ℕ) (th : Thread) (f : Frame) (below : List Frame) (m : ℕ) (other : Thread) (fs : List Frame) → BoundsOf n s → IsBounded n th → suc (length below) ≤ n + 1 → IsBounded n other → Kept n (joined_ended s t th f below m other fs)
 ended_keeps n s t th f below m other [] b i l o =
@@ -236,20 +237,25 @@ act_keeps c n s t th f below (action.Join target) b i l =
 act_keeps c n s t th f below (action.Print m args) b i l = top_keeps n s t th _ below b i l
 act_keeps c n s t th f below (action.Call g) b i l =
     one_set n s.made (s.made + 1) s.threads s.tokens t _ b (omega (arith, b.frames_made)) (framed n th (_ ∷ _ ∷ below) i (omega (arith, l)))
+act_keeps c n s t th f below (action.Sleep v m) b i l = slept_keeps n s t th f below v m (holds (slice_index_or s.owners m.number None) t) b i l
+act_keeps c n s t th f below (action.Wake v m) b i l =
+    woken_keeps n s t th f below v m (sleeps t (sleepers_of s v)) (slice_index_or s.owners m.number None) b i l
+act_keeps c n s t th f below (action.Signal v) b i l = top_keeps n s t th f below b i l
+act_keeps c n s t th f below (action.Broadcast v) b i l = top_keeps n s t th f below b i l
 
 -- an operation of a thread; th is that thread without the operation
 enter_keeps : (n : ℕ) (s : Configuration) (t : ℕ) (th : Thread) (k : LockId) (late may : Bool) → BoundsOf n s → IsBounded n th → Kept n (enter s t th k late may)
 enter_keeps n s t th k false true b i =
     set_one n s.made s.threads s.tokens t _ b (record {
       frames = omega (arith, i.frames);
-      held = put_below th.held k.number (slice_index th.held k.number + 1) (n + 1) (λ j. omega (arith, i.held j)) (omega (arith, i.held k.number));
+      held = set_below th.held k.number (slice_index th.held k.number + 1) (n + 1) (λ j. omega (arith, i.held j)) (omega (arith, i.held k.number));
       missed = λ j. omega (arith, i.missed j);
     })
 enter_keeps n s t th k true false b i =
     set_one n s.made s.threads s.tokens t _ b (record {
       frames = omega (arith, i.frames);
       held = λ j. omega (arith, i.held j);
-      missed = put_below th.missed k.number (slice_index th.missed k.number + 1) (n + 1) (λ j. omega (arith, i.missed j)) (omega (arith, i.missed k.number));
+      missed = set_below th.missed k.number (slice_index th.missed k.number + 1) (n + 1) (λ j. omega (arith, i.missed j)) (omega (arith, i.missed k.number));
     })
 enter_keeps n s t th k false false b i = tt
 enter_keeps n s t th k true true b i = tt
@@ -294,7 +300,7 @@ operate_keeps n s t th false (op.First j) b i = set_one n s.made s.threads s.tok
 operate_keeps n s t th false (op.Done j) b i =
     taken_token_keeps n (record s { threads = set s.threads t th }) j (slice_index s.tokens j.number) (b.few_tokens j.number) (set_one n s.made s.threads s.tokens t th b (thread_later n th i))
 operate_keeps n s t th false (op.Add j) b i =
-    with_tokens n s.made (set s.threads t th) s.tokens _ (set_one n s.made s.threads s.tokens t th b (thread_later n th i)) (put_below s.tokens j.number (slice_index s.tokens j.number + 1) (n + 2) (λ k. omega (arith, b.few_tokens k)) (omega (arith, b.few_tokens j.number)))
+    with_tokens n s.made (set s.threads t th) s.tokens _ (set_one n s.made s.threads s.tokens t th b (thread_later n th i)) (set_below s.tokens j.number (slice_index s.tokens j.number + 1) (n + 2) (λ k. omega (arith, b.few_tokens k)) (omega (arith, b.few_tokens j.number)))
 
 same_frames : (n : ℕ) (th : Thread) (fs : List Frame) → IsBounded n th → length fs ≤ n + 1 → IsBounded n (with_frames th fs)
 same_frames n th fs b l = record { frames = l; held = b.held; missed = b.missed }
@@ -338,9 +344,9 @@ has_room s n i few = record {
 }
 
 -- the start is counted
-token_below : (orders : List OrderId) → Below 1 (initial_tokens orders)
-token_below [] i = omega arith
-token_below (j ∷ rest) i = put_below (initial_tokens rest) j.number 1 1 (token_below rest) (omega arith) i
+token_below : (n : ℕ) (orders : List OrderId) → Below 1 (initial_tokens n orders)
+token_below n [] i = omega (arith, zeros n i)
+token_below n (j ∷ rest) i = set_below (initial_tokens n rest) j.number 1 1 (token_below n rest) (omega arith) i
 
 pub counted_start : (c : Code) (input : List ℤ) → IsCounted (record { configuration = start c input; steps = 0 })
 counted_start c input = record {
@@ -348,10 +354,10 @@ counted_start c input = record {
   made = omega arith;
   threads = omega arith;
   each = λ t th h. at_start t th h;
-  tokens = token_below c.starts;
+  tokens = token_below c.orders c.starts;
 }
   where
-    at_start : (t : ℕ) (th : Thread) → slice_get (thread_of (frame_of c 0 c.main []) ∷ []) t ≡ Some th → IsBounded 0 th
+    at_start : (t : ℕ) (th : Thread) → slice_get (thread_of c (frame_of c 0 c.main []) ∷ []) t ≡ Some th → IsBounded 0 th
     at_start zero th h =
-        subst (IsBounded 0) (let e : thread_of (frame_of c 0 c.main []) ≡ th = cc in e) (record { frames = omega arith; held = λ k. omega arith; missed = λ k. omega arith })
+        subst (IsBounded 0) (let e : thread_of c (frame_of c 0 c.main []) ≡ th = cc in e) (record { frames = omega arith; held = λ k. omega (arith, zeros c.locks k); missed = λ k. omega (arith, zeros c.locks k) })
     at_start (suc t) th h = absurd (let e : None ≡ Some th = h in cc)

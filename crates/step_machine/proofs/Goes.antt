@@ -24,7 +24,8 @@ use Rattle.step_state.specs.Code.{Code}
 use Rattle.step_state.specs.Changes.{with_frames, with_values, with_work}
 use Rattle.step_state.specs.Values.{cell, index_value, last_value, other_values, past_index}
 use Rattle.step_state.specs.Reduce.{Reduced, frame, trap, reduce, reduced}
-use Rattle.step_state.specs.Act.{global_cell, handles_of, holds, fetched, written, taken, locked, unlocked, created, joined_at, joined_number, joined_some, joined_once, joined_ended, handle_at, act}
+use Rattle.step_state.specs.Act.{global_cell, handles_of, holds, fetched, written, taken, locked, unlocked, created, joined_at, joined_number, joined_some, joined_once, joined_ended, handle_at, slept, woken, act}
+use Rattle.step_state.specs.Sleepers.{sleepers_of, sleeps}
 use Rattle.step_state.specs.Operate.{enter, wait, operate, may_enter}
 use Rattle.step_state.specs.Step.{go, leave_frame, returned, work_step, unended_step, step}
 use Rattle.step_state.specs.declared.event.Ending.{Ending}
@@ -81,6 +82,15 @@ unlocked_goes : (s : Configuration) (t : ℕ) (th : Thread) (f : Frame) (below :
 unlocked_goes s t th f below m true = refl
 unlocked_goes s t th f below m false = refl
 
+slept_goes : (s : Configuration) (t : ℕ) (th : Thread) (f : Frame) (below : List Frame) (v m : VarId) (b : Bool) → is_some (slept s t th f below v m b) ≡ true
+slept_goes s t th f below v m true = refl
+slept_goes s t th f below v m false = refl
+
+woken_goes : (s : Configuration) (t : ℕ) (th : Thread) (f : Frame) (below : List Frame) (v m : VarId) (b : Bool) (o : Option ℕ) → is_some (woken s t th f below v m b o) ≡ (not b && is_free o)
+woken_goes s t th f below v m true o = refl
+woken_goes s t th f below v m false (Some u) = refl
+woken_goes s t th f below v m false None = refl
+
 created_goes : (c : Code) (s : Configuration) (t : ℕ) (th : Thread) (f : Frame) (below : List Frame) (target : HandleSite) (of : FnId) (i : ℤ) (vs : List ℤ) (arg : ℤ) (o : Option ℕ) → is_some (created c s t th f below target of i vs arg o) ≡ true
 created_goes c s t th f below target of i vs arg None = refl
 created_goes c s t th f below target of i vs arg (Some old) = refl
@@ -134,6 +144,12 @@ act_goes c s t (action.Join target) h =
     at_goes s t h.thread (with_values (with_work h.frame h.rest) (past_index target.indexed h.frame.values)) h.below (handle_at s (with_work h.frame h.rest) target h.frame.values) ∙ ap (may_join s) (same_handle s h.frame h.rest target h.frame.values) ∙ sym (ap (may_join_at s target) (top_is s t (item.Act (action.Join target)) h))
 act_goes c s t (action.Print n args) h = refl
 act_goes c s t (action.Call g) h = refl
+act_goes c s t (action.Sleep v m) h =
+    slept_goes s t h.thread (with_work h.frame h.rest) h.below v m (holds (slice_index_or s.owners m.number None) t)
+act_goes c s t (action.Wake v m) h =
+    woken_goes s t h.thread (with_work h.frame h.rest) h.below v m (sleeps t (sleepers_of s v)) (slice_index_or s.owners m.number None)
+act_goes c s t (action.Signal v) h = refl
+act_goes c s t (action.Broadcast v) h = refl
 
 leave_goes : (s : Configuration) (t : ℕ) (th : Thread) (v : ℤ) (below : List Frame) → is_some (leave_frame s t th v below) ≡ true
 leave_goes s t th v [] = refl

@@ -5,4 +5,5 @@ pub mod Maps
 pub mod Goes
 pub mod Bounds
 pub mod Modes
+pub mod Sleeping
 pub mod Creations

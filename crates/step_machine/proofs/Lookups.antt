@@ -1,6 +1,6 @@
--- Reading past the end of a list, writing back what was read, and lists that were filled up.
-use Rattle.std.proofs.Common.{◌≡◌, ℕ, zero, suc, ◌+◌, ◌-◌, ◌<◌, List, [], ◌∷◌, ◌++◌, length, get_or, set, take, drop, replicate, Option, Some, None, refl, ap, sym, ◌∙◌, arith}
-use Rattle.std.proofs.lemmas.List.{take_at, set-append_left}
+-- Reading and writing past the end of a list, and writing back what was read.
+use Rattle.std.proofs.Common.{◌≡◌, ℕ, zero, suc, ◌+◌, ◌<◌, ◌≤◌, List, [], ◌∷◌, ◌++◌, length, get_or, set, drop, Option, Some, None, refl, ap, sym, ◌∙◌, arith}
+use Rattle.std.proofs.lemmas.List.{set-append_left}
 use Rattle.std.proofs.lemmas.Option.{slice_get_within}
 use Rattle.std.specs.Prelude.{slice_get, MatchOption}
 use Rattle.step_state.specs.declared.item.Item.{Item}
@@ -30,9 +30,17 @@ pub first_is : {X : Type 0} (xs : List X) (x : X) → slice_get xs 0 ≡ Some x 
 first_is [] x h = cc
 first_is (y ∷ xs) x h = let e : y ≡ x = cc in ap (λ z. z ∷ xs) e
 
--- what is cut off again was added
-pub cut_back : {X : Type 0} (xs ys : List X) (n : ℕ) → n ≡ length xs → take n (xs ++ ys) ≡ xs
-cut_back xs ys n e = take_at xs ys n (sym e)
+-- a write past the end
+pub set_past : {X : Type 0} (xs : List X) (i : ℕ) (x : X) → length xs ≤ i → set xs i x ≡ xs
+set_past [] i x h = refl
+set_past (y ∷ xs) zero x h = absurd (omega (arith, h))
+set_past (y ∷ xs) (suc i) x h = ap (λ ys. y ∷ ys) (set_past xs i x (omega (arith, h)))
+
+-- what is read with a default, where it is there
+pub index_is : {X : Type 0} (xs : List X) (i : ℕ) (x d : X) → slice_get xs i ≡ Some x → get_or xs i d ≡ x
+index_is [] i x d h = cc
+index_is (y ∷ xs) zero x d h = cc
+index_is (y ∷ xs) (suc i) x d h = index_is xs i x d h
 
 -- the work after an item was taken
 rest_is : (o : Option Item) (xs zs : List Item) → MatchOption o ((xs ≡ []) × (zs ≡ [])) (λ x. xs ≡ x ∷ zs) → zs ≡ drop 1 xs

@@ -1,5 +1,8 @@
 -- What a loop adds for each item of a list.
 use Rattle.std.proofs.Common.{◌≡◌, ℕ, ◌+◌, ◌<◌, ◌≤◌, ℤ, pos, List, [], ◌∷◌, ◌++◌, length, map, take, get_or, refl, ap, sym, ◌∙◌, arith}
+use Rattle.c_prog.specs.declared.global.Global.{Global}
+use Rattle.c_prog.specs.declared.global.GlobalKind.{GlobalKind}
+use Rattle.step_state.specs.Start.{all_awake}
 use Rattle.std.proofs.lemmas.List.{append_assoc, map-append, take_more, take_all}
 
 pub mapped_more : {X Y : Type 0} (f : X → Y) (old : List Y) (xs : List X) (i : ℕ) (x : X) → i < length xs → x ≡ get_or xs i x → (old ++ map f (take i xs)) ++ f x ∷ [] ≡ old ++ map f (take (i + 1) xs)
@@ -21,3 +24,14 @@ mapped_end g f xs i h = ap (λ l. map g (map f l)) (take_all i xs h)
 pub empty_more : (old : List (List ℕ)) (xs : List ℤ) (i : ℕ) → i < length xs → (old ++ map (λ (v : ℤ). []) (take i xs)) ++ [] ∷ [] ≡ old ++ map (λ (v : ℤ). []) (take (i + 1) xs)
 empty_more old xs i h =
     append_assoc old (map (λ (v : ℤ). []) (take i xs)) ([] ∷ []) ∙ ap (λ l. old ++ l) (sym (ap (map (λ (v : ℤ). [])) (take_more xs i (pos 0) h) ∙ map-append (λ (v : ℤ). []) (take i xs) (get_or xs i (pos 0) ∷ [])))
+
+-- no sleeper for each global
+abbrev kinds : List Global → List GlobalKind
+kinds globals = map (λ (global : Global). global.kind) globals
+
+pub awake_more : (xs : List Global) (i : ℕ) (x : Global) → i < length xs → x ≡ get_or xs i x → all_awake (map (λ (global : Global). global.kind) (take i xs)) ++ [] ∷ [] ≡ all_awake (map (λ (global : Global). global.kind) (take (i + 1) xs))
+awake_more xs i x h e =
+    sym (ap (λ l. all_awake (kinds l)) (take_more xs i x h) ∙ ap all_awake (map-append (λ (global : Global). global.kind) (take i xs) (get_or xs i x ∷ [])) ∙ map-append (λ (g : GlobalKind). []) (kinds (take i xs)) ((get_or xs i x).kind ∷ []))
+
+pub awake_end : (xs : List Global) (i : ℕ) → length xs ≤ i → all_awake (map (λ (global : Global). global.kind) (take i xs)) ≡ all_awake (map (λ (global : Global). global.kind) xs)
+awake_end xs i h = ap (λ l. all_awake (kinds l)) (take_all i xs h)

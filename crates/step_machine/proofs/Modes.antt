@@ -3,9 +3,9 @@ use Rattle.std.proofs.Common.{◌≡◌, ℕ, Bool, true, false, not, Option, So
 use Rattle.std.specs.Prelude.{is_some, ◌&&◌}
 use Rattle.step_machine.specs.Goes.{in_mode, is_free}
 
-pub not_late : (late : Bool) → not late ≡ true → late ≡ false
-not_late true h = cc
-not_late false h = refl
+pub not_true : (b : Bool) → not b ≡ true → b ≡ false
+not_true true h = cc
+not_true false h = refl
 
 pub in_normal : (may : Bool) → in_mode false may ≡ true → may ≡ true
 in_normal may h = h

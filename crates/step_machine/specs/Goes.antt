@@ -5,11 +5,12 @@ use Rattle.cfix_base.specs.declared.op.Op.TheVariants.{Leave, First, Done, Wait,
 use Rattle.step_state.specs.declared.item.Item.{Item}
 use Rattle.step_state.specs.declared.item.Item.TheVariants as item
 use Rattle.step_state.specs.declared.item.Action.{Action}
-use Rattle.step_state.specs.declared.item.Action.TheVariants.{Lock, Join}
+use Rattle.step_state.specs.declared.item.Action.TheVariants.{Get, GetKeep, Put, Take, Lock, Unlock, Create, Join, Print, Call, Sleep, Wake, Signal, Broadcast}
 use Rattle.step_state.specs.declared.item.HandleSite.{HandleSite}
 use Rattle.step_state.specs.declared.frame.Frame.{Frame}
 use Rattle.step_state.specs.declared.state.Configuration.{Configuration}
 use Rattle.step_state.specs.Act.{handle_at}
+use Rattle.step_state.specs.Sleepers.{sleepers_of, sleeps}
 use Rattle.step_state.specs.Operate.{may_enter, no_token}
 use Rattle.step_machine.specs.Tops.{may_join, top_of}
 
@@ -40,10 +41,22 @@ abbrev pub may_join_at : Configuration → HandleSite → Option Frame → Bool
 may_join_at s target None = false
 may_join_at s target (Some f) = may_join s (handle_at s f target f.values)
 
+-- whether an item that reads or changes what is outside its frame makes a step or traps
 abbrev pub may_act : Configuration → ℕ → Action → Bool
 may_act s t (Lock m) = is_free (slice_index_or s.owners m.number None)
 may_act s t (Join target) = may_join_at s target (top_of s t)
-may_act s t _ = true
+may_act s t (Wake v m) = not (sleeps t (sleepers_of s v)) && is_free (slice_index_or s.owners m.number None)
+may_act s t (Get site) = true
+may_act s t (GetKeep site) = true
+may_act s t (Put site) = true
+may_act s t Take = true
+may_act s t (Unlock m) = true
+may_act s t (Create target of) = true
+may_act s t (Print n args) = true
+may_act s t (Call g) = true
+may_act s t (Sleep v m) = true
+may_act s t (Signal v) = true
+may_act s t (Broadcast v) = true
 
 abbrev pub may_do : Configuration → ℕ → Bool → Item → Bool
 may_do s t late (item.Op op) = may_operate s t late op

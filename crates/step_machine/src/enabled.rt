@@ -9,6 +9,7 @@ use crate::locks::may_enter;
 use crate::mutexes::owner_of;
 use crate::next::top_frame;
 use crate::orders::is_ready;
+use crate::sleepers::{sleepers_of, sleeps};
 use crate::threads::may_join;
 use cfix_base::{Op, VarId};
 use step_state::{Action, Configuration, Item};
@@ -39,6 +40,9 @@ fn may_act(state: &Configuration, thread: u32, action: Action) -> bool
     match action {
         Action::Lock(mutex) => is_free(state, mutex),
         Action::Join(target) => may_join(state, top_frame(state, thread), target),
+        Action::Wake { cond, mutex } => {
+            !sleeps(thread, sleepers_of(&state.sleepers, cond)) && is_free(state, mutex)
+        }
         Action::Get(_)
         | Action::GetKeep(_)
         | Action::Put(_)
@@ -46,7 +50,10 @@ fn may_act(state: &Configuration, thread: u32, action: Action) -> bool
         | Action::Unlock(_)
         | Action::Create { target: _, of: _ }
         | Action::Print { node: _, args: _ }
-        | Action::Call(_) => true,
+        | Action::Call(_)
+        | Action::Sleep { cond: _, mutex: _ }
+        | Action::Signal(_)
+        | Action::Broadcast(_) => true,
     }
 }
 

@@ -6,7 +6,7 @@ use crate::work::work_after;
 use c_prog::LocalKind;
 use cfix_base::{FnId, NoMemory, Place};
 use std::alloc::Global;
-use step_state::{Frame, Stack, Table, Thread};
+use step_state::{Depths, Frame, Stack, Table, Thread};
 use step_tables::Tables;
 
 /// So many cells with one value.
@@ -148,16 +148,16 @@ pub fn frame_of(
     })
 }
 
-/// A thread that begins with this frame.
-pub fn thread_of(alloc: Global, frame: Frame) -> Result<Thread, NoMemory>
-    ensures { IfOk result (λ thread. thread ≡ thread_of frame) }
+/// A thread that begins with this frame, in no lock.
+pub fn thread_of(alloc: Global, tables: &Tables, frame: Frame) -> Result<Thread, NoMemory>
+    ensures { IfOk result (λ thread. thread ≡ thread_of (tree_code tables.now) frame) }
 {
     let mut frames = Stack::new(alloc);
     frames.push(frame)?;
     Ok(Thread {
         frames,
         joined: false,
-        held: Table::new(alloc),
-        missed: Table::new(alloc),
+        held: Depths::new(alloc, tables.locks()),
+        missed: Depths::new(alloc, tables.locks()),
     })
 }

@@ -35,7 +35,7 @@ impl Machine<'_> {
     }
 
     /// An inserted operation is done, or times out.
-    #[tactic(auto, using(crate::proofs::Modes::not_late, crate::proofs::Modes::in_normal, crate::proofs::Modes::in_timeout))]
+    #[tactic(auto, using(crate::proofs::Modes::not_true, crate::proofs::Modes::in_normal, crate::proofs::Modes::in_timeout))]
     fn operate(
         &self,
         state: &mut Configuration,
@@ -65,14 +65,14 @@ impl Machine<'_> {
                 }
             }
             Op::Leave(lock) => Ok(self.leave(state, thread, lock)),
-            Op::First(order) => Ok(self.first(state, thread, order)?),
+            Op::First(order) => Ok(self.first(state, thread, order)),
             Op::Done(order) => Ok(self.done(state, thread, order)),
-            Op::Add(order) => Ok(self.add(state, thread, order)?),
+            Op::Add(order) => Ok(self.add(state, thread, order)),
         }
     }
 
     /// An item is done that reads or changes what is outside its frame.
-    #[tactic(auto, using(crate::proofs::Modes::is_none))]
+    #[tactic(auto, using(crate::proofs::Modes::is_none, crate::proofs::Modes::not_true, crate::proofs::Modes::both_first, crate::proofs::Modes::both_second))]
     fn act(
         &self,
         alloc: Global,
@@ -97,6 +97,10 @@ impl Machine<'_> {
             Action::Join(target) => Ok(self.join(state, thread, target)),
             Action::Print { node, args } => Ok(self.print(alloc, state, thread, node, args)?),
             Action::Call(function) => Ok(self.call(alloc, state, thread, function)?),
+            Action::Sleep { cond, mutex } => Ok(self.sleep(state, thread, cond, mutex)?),
+            Action::Wake { cond, mutex } => Ok(self.wake(state, thread, cond, mutex)),
+            Action::Signal(cond) => Ok(self.signal(state, thread, cond)),
+            Action::Broadcast(cond) => Ok(self.broadcast(alloc, state, thread, cond)),
         }
     }
 
@@ -121,7 +125,7 @@ impl Machine<'_> {
     }
 
     /// The next item of the thread is done.
-    #[tactic(auto, using(crate::proofs::Modes::not_late, crate::proofs::Modes::both_first, crate::proofs::Modes::both_second))]
+    #[tactic(auto, using(crate::proofs::Modes::not_true, crate::proofs::Modes::both_first, crate::proofs::Modes::both_second))]
     pub(crate) fn make(
         &self,
         alloc: Global,

@@ -3,6 +3,7 @@
 
 mod build;
 mod calls;
+mod conditions;
 mod counts;
 mod enabled;
 mod fault;
@@ -16,6 +17,7 @@ mod mutexes;
 mod next;
 mod orders;
 mod output;
+mod sleepers;
 mod start;
 mod stepping;
 mod threads;

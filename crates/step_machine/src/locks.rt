@@ -1,5 +1,4 @@
-ghost use Rattle.std.specs.Prelude.{◌≡◌, ◌+◌, ◌^◌, ◌<◌, true, false, length, IfOk, OnOk, OnErr, slice_index, slice_index_or, Option};
-ghost use Rattle.step_state.specs.Changes.{put_at};
+ghost use Rattle.std.specs.Prelude.{◌≡◌, ◌+◌, ◌^◌, ◌<◌, true, false, length, slice_index, slice_index_or, slice_set, IfOk, OnErr, OnOk, Option};
 ghost use Rattle.step_state.specs.Operate.{may_enter, owner_after};
 ghost use Rattle.cfix_base.specs.declared.op.Op.TheVariants as op;
 ghost use Rattle.step_state.specs.declared.item.Item.TheVariants as item;
@@ -7,7 +6,6 @@ ghost use Rattle.step_tables.specs.TreeCode.{tree_code};
 ghost use Rattle.step_machine.specs.Next.{popped_thread, IsNext, Steps};
 ghost use Rattle.step_machine.specs.Rooms.{HasRoom};
 
-use crate::counts::{count_of, raise};
 use crate::machine_of::Machine;
 use crate::next::pop_next;
 use cfix_base::{LockId, NoMemory};
@@ -35,10 +33,10 @@ fn owner_after(thread: u32, depth: u32) -> Option<u32>
 fn hold(thread: &mut Thread, lock: LockId) -> Result<(), NoMemory>
     requires frames { 0 < length thread.old.frames }
     requires room { slice_index thread.old.held lock.number + 1 < 2 ^ 32 }
-    ensures ok { OnOk result (thread.new ≡ record (popped_thread thread.old) { held = put_at 0 thread.old.held lock.number (slice_index thread.old.held lock.number + 1) }) }
+    ensures ok { OnOk result (thread.new ≡ record (popped_thread thread.old) { held = slice_set thread.old.held lock.number (slice_index thread.old.held lock.number + 1) }) }
     ensures err { OnErr result (thread.new ≡ thread.old) }
 {
-    raise(&mut thread.held, lock.number)?;
+    thread.held.raise(lock.number)?;
     pop_next(thread);
     Ok(())
 }
@@ -47,17 +45,17 @@ fn hold(thread: &mut Thread, lock: LockId) -> Result<(), NoMemory>
 fn miss(thread: &mut Thread, lock: LockId) -> Result<(), NoMemory>
     requires frames { 0 < length thread.old.frames }
     requires room { slice_index thread.old.missed lock.number + 1 < 2 ^ 32 }
-    ensures ok { OnOk result (thread.new ≡ record (popped_thread thread.old) { missed = put_at 0 thread.old.missed lock.number (slice_index thread.old.missed lock.number + 1) }) }
+    ensures ok { OnOk result (thread.new ≡ record (popped_thread thread.old) { missed = slice_set thread.old.missed lock.number (slice_index thread.old.missed lock.number + 1) }) }
     ensures err { OnErr result (thread.new ≡ thread.old) }
 {
-    raise(&mut thread.missed, lock.number)?;
+    thread.missed.raise(lock.number)?;
     pop_next(thread);
     Ok(())
 }
 
 impl Machine<'_> {
     /// A lock that is free, or the thread's own, is entered.
-    #[tactic(auto, using(crate::proofs::Lookups::set_back, crate::proofs::Lookups::cut_back))]
+    #[tactic(auto, using(crate::proofs::Lookups::set_back))]
     pub(crate) fn enter(
         &self,
         state: &mut Configuration,
@@ -70,15 +68,8 @@ impl Machine<'_> {
         ensures ok { IfOk result (λ event. Steps (tree_code self.now) state.old thread false state.new event) }
         ensures err { OnErr result (state.new ≡ state.old) }
     {
-        let place = lock.number as usize;
-        let len = state.locks.len();
-        state.locks.fill_to(place + 1, None)?;
-        let at = state.threads.at_mut(thread as usize);
-        if hold(at, lock).is_err() {
-            state.locks.truncate(len);
-            return Err(NoMemory);
-        }
-        state.locks.set(place, Some(thread));
+        hold(state.threads.at_mut(thread as usize), lock)?;
+        state.locks.set(lock.number as usize, Some(thread));
         Ok(Event::Enter(lock))
     }
 
@@ -105,18 +96,18 @@ impl Machine<'_> {
         requires { IsNext state.old thread (item.Op (op.Leave lock)) }
         ensures { Steps (tree_code self.now) state.old thread false state.new result }
     {
-        let place = lock.number as usize;
         let at = state.threads.at_mut(thread as usize);
         pop_next(at);
-        let held = count_of(&at.held, lock.number);
+        let held = at.held.at(lock.number);
         if held > 0 {
-            at.held.set(place, held - 1);
-            state.locks.set(place, owner_after(thread, held - 1));
+            at.held.lower(lock.number);
+            state
+                .locks
+                .set(lock.number as usize, owner_after(thread, held - 1));
             return Event::Leave(lock);
         }
-        let missed = count_of(&at.missed, lock.number);
-        if missed > 0 {
-            at.missed.set(place, missed - 1);
+        if at.missed.at(lock.number) > 0 {
+            at.missed.lower(lock.number);
         }
         Event::Leave(lock)
     }

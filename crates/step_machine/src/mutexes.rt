@@ -23,7 +23,7 @@ pub fn owner_of(owners: &Table<Option<u32>>, mutex: VarId) -> Option<u32>
 }
 
 /// Whether the owner is this thread.
-fn holds(owner: Option<u32>, thread: u32) -> bool
+pub fn holds(owner: Option<u32>, thread: u32) -> bool
     ensures { result ≡ holds owner thread }
 {
     match owner {

@@ -1,4 +1,4 @@
-ghost use Rattle.std.specs.Prelude.{◌≡◌, ◌+◌, ◌||◌, true, false, IfOk, OnErr, slice_index, slice_index_or};
+ghost use Rattle.std.specs.Prelude.{◌≡◌, ◌+◌, ◌||◌, true, false, slice_index, slice_index_or};
 ghost use Rattle.step_state.specs.Operate.{no_token};
 ghost use Rattle.cfix_base.specs.declared.op.Op.TheVariants as op;
 ghost use Rattle.step_state.specs.declared.item.Item.TheVariants as item;
@@ -9,7 +9,7 @@ ghost use Rattle.step_machine.specs.Rooms.{HasRoom};
 use crate::counts::{count_of, raise};
 use crate::machine_of::Machine;
 use crate::next::pop_next;
-use cfix_base::{NoMemory, OrderId};
+use cfix_base::OrderId;
 use step_state::{Configuration, Event, Table};
 
 /// Whether the order's flag is set.
@@ -52,21 +52,13 @@ impl Machine<'_> {
     }
 
     /// An order gets its flag.
-    pub(crate) fn first(
-        &self,
-        state: &mut Configuration,
-        thread: u32,
-        order: OrderId,
-    ) -> Result<Event, NoMemory>
-        requires next { IsNext state.old thread (item.Op (op.First order)) }
-        ensures ok { IfOk result (λ event. Steps (tree_code self.now) state.old thread false state.new event) }
-        ensures err { OnErr result (state.new ≡ state.old) }
+    pub(crate) fn first(&self, state: &mut Configuration, thread: u32, order: OrderId) -> Event
+        requires { IsNext state.old thread (item.Op (op.First order)) }
+        ensures { Steps (tree_code self.now) state.old thread false state.new result }
     {
-        let place = order.number as usize;
-        state.flags.fill_to(place + 1, false)?;
-        state.flags.set(place, true);
         pop_next(state.threads.at_mut(thread as usize));
-        Ok(Event::First(order))
+        state.flags.set(order.number as usize, true);
+        Event::First(order)
     }
 
     /// An order gets one token less, if it has one.
@@ -83,19 +75,13 @@ impl Machine<'_> {
     }
 
     /// An order gets one token more.
-    pub(crate) fn add(
-        &self,
-        state: &mut Configuration,
-        thread: u32,
-        order: OrderId,
-    ) -> Result<Event, NoMemory>
+    pub(crate) fn add(&self, state: &mut Configuration, thread: u32, order: OrderId) -> Event
         requires next { IsNext state.old thread (item.Op (op.Add order)) }
         requires room { HasRoom state.old }
-        ensures ok { IfOk result (λ event. Steps (tree_code self.now) state.old thread false state.new event) }
-        ensures err { OnErr result (state.new ≡ state.old) }
+        ensures { Steps (tree_code self.now) state.old thread false state.new result }
     {
-        raise(&mut state.tokens, order.number)?;
         pop_next(state.threads.at_mut(thread as usize));
-        Ok(Event::Add(order))
+        raise(&mut state.tokens, order.number);
+        Event::Add(order)
     }
 }

@@ -1,6 +1,6 @@
 ghost use Rattle.std.specs.Prelude.{◌≡◌, [], ◌∷◌, map, IfOk};
 ghost use Rattle.step_state.specs.Changes.{frame_of, thread_of};
-ghost use Rattle.step_state.specs.Start.{initial_cells, initial_handles, initial_tokens, start};
+ghost use Rattle.step_state.specs.Start.{all_awake, initial_cells, initial_handles, initial_tokens, start};
 ghost use Rattle.step_tables.specs.TreeCode.{tree_code};
 
 use crate::frames::{cells, frame_of, thread_of};
@@ -18,9 +18,8 @@ fn initial_cells(alloc: Global, kind: GlobalKind) -> Result<Table<i32>, NoMemory
     match kind {
         GlobalKind::Int(value) => cells(alloc, 1, value),
         GlobalKind::IntArray(len) => cells(alloc, len as usize, 0),
-        GlobalKind::Thread | GlobalKind::ThreadArray(_) | GlobalKind::Mutex => {
-            Ok(Table::new(alloc))
-        }
+        GlobalKind::Thread | GlobalKind::ThreadArray(_) | GlobalKind::Mutex | GlobalKind::Cond =>
+            Ok(Table::new(alloc)),
     }
 }
 
@@ -31,7 +30,9 @@ fn initial_handles(alloc: Global, kind: GlobalKind) -> Result<Table<u32>, NoMemo
     match kind {
         GlobalKind::Thread => cells(alloc, 1, 0),
         GlobalKind::ThreadArray(len) => cells(alloc, len as usize, 0),
-        GlobalKind::Int(_) | GlobalKind::IntArray(_) | GlobalKind::Mutex => Ok(Table::new(alloc)),
+        GlobalKind::Int(_) | GlobalKind::IntArray(_) | GlobalKind::Mutex | GlobalKind::Cond => Ok(
+            Table::new(alloc),
+        ),
     }
 }
 
@@ -59,18 +60,28 @@ fn all_handles(alloc: Global, globals: &[Variable]) -> Result<Table<Table<u32>>,
     Ok(table)
 }
 
-/// One token for each of these orders.
-#[tactic(auto, using(crate::proofs::Works::drop_at, crate::proofs::Works::mapped_all))]
-fn tokens(alloc: Global, orders: &[OrderId]) -> Result<Table<u32>, NoMemory>
-    ensures { IfOk result (λ tokens. tokens ≡ initial_tokens orders.now) }
+/// The threads that sleep on each global: none.
+#[tactic(auto, using(crate::proofs::Maps::awake_more, crate::proofs::Maps::awake_end))]
+fn all_awake(alloc: Global, globals: &[Variable]) -> Result<Table<Table<u32>>, NoMemory>
+    ensures { IfOk result (λ table. table ≡ all_awake (map (λ global. global.kind) globals.now)) }
 {
-    let mut tokens = Table::new(alloc);
+    let mut table = Table::new(alloc);
+    for _global in globals {
+        table.push(Table::new(alloc))?;
+    }
+    Ok(table)
+}
+
+/// One token for each of these orders, of so many.
+#[tactic(auto, using(crate::proofs::Works::drop_at, crate::proofs::Works::mapped_all))]
+fn tokens(alloc: Global, count: usize, orders: &[OrderId]) -> Result<Table<u32>, NoMemory>
+    ensures { IfOk result (λ tokens. tokens ≡ initial_tokens count orders.now) }
+{
+    let mut tokens = cells(alloc, count, 0)?;
     let mut left = orders.len();
     while left > 0 {
         left -= 1;
-        let place = orders[left].number as usize;
-        tokens.fill_to(place + 1, 0)?;
-        tokens.set(place, 1);
+        tokens.set(orders[left].number as usize, 1);
     }
     Ok(tokens)
 }
@@ -87,11 +98,11 @@ fn stacked(alloc: Global, input: &[i32]) -> Result<Stack<i32>, NoMemory>
 
 /// Thread 0, at the start of main.
 fn main_thread(alloc: Global, tables: &Tables) -> Result<Table<Thread>, NoMemory>
-    ensures { IfOk result (λ threads. threads ≡ thread_of (frame_of (tree_code tables.now) 0 (tree_code tables.now).main []) ∷ []) }
+    ensures { IfOk result (λ threads. threads ≡ thread_of (tree_code tables.now) (frame_of (tree_code tables.now) 0 (tree_code tables.now).main []) ∷ []) }
 {
     let frame = frame_of(alloc, tables, 0, tables.main(), &[])?;
     let mut threads = Table::new(alloc);
-    threads.push(thread_of(alloc, frame)?)?;
+    threads.push(thread_of(alloc, tables, frame)?)?;
     Ok(threads)
 }
 
@@ -105,13 +116,14 @@ impl Machine<'_> {
             globals: all_cells(alloc, globals)?,
             handles: all_handles(alloc, globals)?,
             owners: cells(alloc, globals.len(), None)?,
+            sleepers: all_awake(alloc, globals)?,
             input: stacked(alloc, input)?,
             output: List::new(alloc),
             threads: main_thread(alloc, &self.tables)?,
             made: 1,
-            locks: Table::new(alloc),
-            tokens: tokens(alloc, self.tables.starts())?,
-            flags: Table::new(alloc),
+            locks: cells(alloc, self.tables.locks(), None)?,
+            tokens: tokens(alloc, self.tables.orders(), self.tables.starts())?,
+            flags: cells(alloc, self.tables.orders(), false)?,
             ending: Ending::Running,
         })
     }

@@ -42,11 +42,11 @@ fn created(
     function: FnId,
     creator: &Frame,
 ) -> Result<Thread, NoMemory>
-    ensures { IfOk result (λ thread. thread ≡ thread_of (frame_of (tree_code tables.now) serial function.number (last_value creator.now.values ∷ []))) }
+    ensures { IfOk result (λ thread. thread ≡ thread_of (tree_code tables.now) (frame_of (tree_code tables.now) serial function.number (last_value creator.now.values ∷ []))) }
 {
     let args = [last_value(&creator.values)];
     let frame = frame_of(alloc, tables, serial, function, &args)?;
-    thread_of(alloc, frame)
+    thread_of(alloc, tables, frame)
 }
 
 /// A number is stored in a global variable, if it is one.

@@ -20,6 +20,7 @@ use Rattle.step_state.specs.declared.event.Event.TheVariants as event
 use Rattle.step_state.specs.declared.event.Trap.TheVariants as trap
 use Rattle.step_state.specs.declared.item.Item.{Item}
 use Rattle.step_state.specs.declared.item.Item.TheVariants.{Reduce, Act, Go}
+use Rattle.step_state.specs.declared.item.Item.TheVariants as item
 use Rattle.step_state.specs.declared.item.Reduction.TheVariants as reduction
 use Rattle.step_state.specs.declared.item.Action.TheVariants as action
 use Rattle.step_state.specs.declared.item.Move.TheVariants as move
@@ -32,7 +33,9 @@ use Rattle.step_state.specs.Values as values
 use Rattle.step_state.specs.Values.{Computed, binary, unary}
 use Rattle.std.specs.Fmt.{digits}
 use Rattle.step_state.specs.Code.{Code, node, fn_id}
+use Rattle.step_state.specs.Sleepers.{with_sleeper, all_but_lowest}
 use Rattle.step_state.specs.Run.{Ran, run}
+use Rattle.step_state.specs.Spots.{Spot, At, Begin, Past, spot}
 use Rattle.step_state.specs.Erase.{erased}
 
 -- the events of a run, and how it stands after them
@@ -79,7 +82,7 @@ straight (After n) = Some (suc n.number)
 straight (True n) = None
 straight (False n) = None
 
--- a program with one scalar, an array of two cells, a thread and a mutex as its globals
+-- a program with one scalar, an array of two cells, a thread, a mutex and a condition variable as its globals
 abbrev program : (ℕ → List Item) → (Place → List Op) → (Place → Option ℕ) → Code
 program items ops next = record {
   items = items;
@@ -90,9 +93,11 @@ program items ops next = record {
   gives = λ n. n == 9;
   params = λ f. f;
   locals = λ f. local.Int ∷ local.IntArray 2 ∷ [];
-  globals = kind.Int (pos 3) ∷ kind.IntArray 2 ∷ kind.Thread ∷ kind.Mutex ∷ [];
+  globals = kind.Int (pos 3) ∷ kind.IntArray 2 ∷ kind.Thread ∷ kind.Mutex ∷ kind.Cond ∷ [];
   main = 0;
   starts = order 1 ∷ [];
+  locks = 8;
+  orders = 8;
 }
 
 abbrev sum : Code
@@ -249,6 +254,62 @@ joins : told (run creates [] (normal 5 0 ++ normal 6 1 ++ normal 2 0))
     ≡ Some (event.Begin (node 0) ∷ event.Silent ∷ event.Create 1 ∷ event.Silent ∷ event.Begin (node 1) ∷ event.Begin (node 9) ∷ event.Silent ∷ event.Silent ∷ event.Silent ∷ event.Silent ∷ event.Exit ∷ event.Join 1 ∷ event.Trap trap.Join ∷ [], ending.Trap trap.Join)
 joins = refl
 
+-- pthread_mutex_lock(&m); pthread_cond_wait(&c, &m);
+abbrev sleep : Item
+sleep = Act (action.Sleep (variable 4) (variable 3))
+
+abbrev waiting : List Item
+waiting = Act (action.Lock (variable 3)) ∷ sleep ∷ Act (action.Wake (variable 4) (variable 3)) ∷ []
+
+sleeps : of_items waiting [] 3
+    ≡ Some (event.Begin (node 0) ∷ event.Lock (variable 3) ∷ event.Sleep (variable 4) (variable 3) ∷ [], ending.Running)
+sleeps = refl
+
+-- a thread that sleeps does not wake by itself
+sleeps-on : of_items waiting [] 4 ≡ None
+sleeps-on = refl
+
+-- a thread that does not hold the mutex cannot wait
+sleep-unlocked : of_items (sleep ∷ []) [] 2
+    ≡ Some (event.Begin (node 0) ∷ event.Trap trap.Unlock ∷ [], ending.Trap trap.Unlock)
+sleep-unlocked = refl
+
+-- main creates a thread, which does this, and waits
+abbrev other_items : List Item → ℕ → List Item
+other_items other zero = push (pos 21) ∷ Act (action.Create handle (fn_id 1)) ∷ waiting
+other_items other (suc n) = other
+
+abbrev beside : List Item → Code
+beside other = program (other_items other) no_ops two_next
+
+-- a signal, after which main wakes
+signal-wakes : told (run (beside (Act (action.Signal (variable 4)) ∷ [])) [] (normal 5 0 ++ normal 2 1 ++ normal 1 0))
+    ≡ Some (event.Begin (node 0) ∷ event.Silent ∷ event.Create 1 ∷ event.Lock (variable 3) ∷ event.Sleep (variable 4) (variable 3) ∷ event.Begin (node 9) ∷ event.Signal (variable 4) ∷ event.Wake (variable 4) (variable 3) ∷ [], ending.Running)
+signal-wakes = refl
+
+-- a signal before main sleeps is lost
+signal-lost : run (beside (Act (action.Signal (variable 4)) ∷ [])) [] (normal 3 0 ++ normal 2 1 ++ normal 3 0) ≡ None
+signal-lost = refl
+
+-- a broadcast wakes it too, once the mutex is free
+abbrev broadcasts : Code
+broadcasts =
+    beside (Act (action.Lock (variable 3)) ∷ Act (action.Broadcast (variable 4)) ∷ Act (action.Unlock (variable 3)) ∷ [])
+
+wake-blocked : run broadcasts [] (normal 5 0 ++ normal 3 1 ++ normal 1 0) ≡ None
+wake-blocked = refl
+
+broadcast-wakes : told (run broadcasts [] (normal 5 0 ++ normal 4 1 ++ normal 1 0))
+    ≡ Some (event.Begin (node 0) ∷ event.Silent ∷ event.Create 1 ∷ event.Lock (variable 3) ∷ event.Sleep (variable 4) (variable 3) ∷ event.Begin (node 9) ∷ event.Lock (variable 3) ∷ event.Broadcast (variable 4) ∷ event.Unlock (variable 3) ∷ event.Wake (variable 4) (variable 3) ∷ [], ending.Running)
+broadcast-wakes = refl
+
+-- threads that sleep stand by rising numbers, and a signal wakes the first
+rising : with_sleeper 2 (with_sleeper 1 (with_sleeper 3 [])) ≡ 1 ∷ 2 ∷ 3 ∷ []
+rising = refl
+
+lowest : all_but_lowest (1 ∷ 2 ∷ 3 ∷ []) ≡ 2 ∷ 3 ∷ []
+lowest = refl
+
 -- operations: main enters lock 0 twice, waits for order 1, which begins with a token, and leaves; function 1 does order 1
 -- and enters lock 0
 abbrev main_ops : ℕ → List Op
@@ -292,8 +353,12 @@ wait-late : told (run guarded [] (normal 6 0 ++ late 0 ∷ []))
 wait-late = refl
 
 -- the schedule without the operations' entries
-erases : erased guarded [] (normal 6 0 ++ normal 1 1 ++ late 1 ∷ normal 2 1) ≡ normal 4 0 ++ normal 1 1
+erases : erased (record { lock = 0; order = 0 }) guarded [] (normal 6 0 ++ normal 1 1 ++ late 1 ∷ normal 2 1) ≡ normal 4 0 ++ normal 1 1
 erases = refl
+
+-- those of order 1 are kept where only locks are new
+erases-locks : erased (record { lock = 0; order = 8 }) guarded [] (normal 6 0 ++ normal 1 1 ++ late 1 ∷ normal 2 1) ≡ normal 4 0 ++ normal 2 1
+erases-locks = refl
 
 -- a flag makes a wait pass, an added token blocks it again
 abbrev signals : Place → List Op
@@ -322,3 +387,15 @@ all_values =
 values-fit : all_values
     ≡ values.value (pos 2147483647) ∷ values.value (negsuc 2147483647) ∷ values.value (negsuc 2147483647) ∷ values.value (negsuc 2) ∷ values.value (negsuc 0) ∷ values.value (pos 1) ∷ values.value (pos 1) ∷ values.value (pos 1) ∷ values.value (pos 1) ∷ values.value (pos 1) ∷ []
 values-fit = refl
+
+-- a frame stands at the node that it visits; at the one that it left, or the start, until it has made the operations there;
+-- then at the next one, or past them all
+abbrev pub added : Item
+added = item.Op (op.Add (order 1))
+
+abbrev pub all_spots : List Spot
+all_spots =
+    spot (Some (node 2)) (Start (fn_id 1)) (added ∷ []) ∷ spot None (True (node 2)) (added ∷ Go (move.Node (node 3)) ∷ []) ∷ spot None (Start (fn_id 1)) (added ∷ []) ∷ spot None (True (node 2)) (Go (move.Node (node 3)) ∷ []) ∷ spot None (After (node 2)) (Go move.Exit ∷ []) ∷ []
+
+spots : all_spots ≡ At 2 ∷ At 2 ∷ Begin 1 ∷ At 3 ∷ Past ∷ []
+spots = refl

@@ -108,6 +108,11 @@ down : part_items 3 (Some (node_part 0 (act (form.Down (record { var = var.Local
     ≡ Reduce (reduction.LocalKeep (record { local = 5; indexed = false })) ∷ Reduce (reduction.Push (pos 1)) ∷ Reduce (reduction.Bin operator.Sub) ∷ Reduce (reduction.Put (record { local = 5; indexed = false })) ∷ Go (move.Edge (node 3)) ∷ []
 down = refl
 
+-- pthread_cond_wait(&c, &m); where c is global 4 and m is global 3
+wait : part_items 3 (Some (node_part 0 (act (form.Wait (record { number = 4 }) (record { number = 3 })) [])))
+    ≡ Do (action.Sleep (record { number = 4 }) (record { number = 3 })) ∷ Do (action.Wake (record { number = 4 }) (record { number = 3 })) ∷ Go (move.Edge (node 3)) ∷ []
+wait = refl
+
 -- a condition, and a `return` without a value
 condition : (c : Cond) → c.test ≡ expr.Cast 0 → part_items 3 (Some (node_part 0 (cond c))) ≡ Reduce (reduction.Local (record { local = 0; indexed = false })) ∷ Go (move.Branch (node 3)) ∷ []
 condition c e = ap (λ t. part_items 3 (Some (both (expr_part t) branch))) e ∙ ap (λ p. part_items 3 (Some (both p branch))) (part-Cast 0)

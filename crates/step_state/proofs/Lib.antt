@@ -1,4 +1,5 @@
 pub mod Tops
+pub mod Filled
 pub mod Leads
 pub mod PartEquations
 pub mod Examples

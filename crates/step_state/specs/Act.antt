@@ -8,7 +8,7 @@ use Rattle.c_prog.specs.declared.expr.Var.TheVariants as var
 use Rattle.step_state.specs.declared.event.Event.TheVariants as event
 use Rattle.step_state.specs.declared.event.Trap.TheVariants as trap
 use Rattle.step_state.specs.declared.item.Action.{Action}
-use Rattle.step_state.specs.declared.item.Action.TheVariants.{Get, GetKeep, Put, Take, Lock, Unlock, Create, Join, Print, Call}
+use Rattle.step_state.specs.declared.item.Action.TheVariants.{Get, GetKeep, Put, Take, Lock, Unlock, Create, Join, Print, Call, Sleep, Wake, Signal, Broadcast}
 use Rattle.step_state.specs.declared.item.GlobalSite.{GlobalSite}
 use Rattle.step_state.specs.declared.item.HandleSite.{HandleSite}
 use Rattle.step_state.specs.declared.frame.Frame.{Frame}
@@ -16,6 +16,7 @@ use Rattle.step_state.specs.declared.thread.Thread.{Thread}
 use Rattle.step_state.specs.declared.state.Configuration.{Configuration}
 use Rattle.step_state.specs.Code.{Code}
 use Rattle.step_state.specs.Values.{last_value, last_values, other_values, index_value, past_index, cell, place_of, with_cell}
+use Rattle.step_state.specs.Sleepers.{sleepers_of, with_sleepers, with_sleeper, all_but_lowest, sleeps}
 use Rattle.step_state.specs.Changes.{Made, with_thread, with_frames, with_top_frame, with_values, trapped, frame_of, thread_of}
 
 -- the cells of a global, and the cell that a site means, by the values behind
@@ -90,7 +91,7 @@ created c s t th f below target of i vs arg (Some old) =
       record s {
         threads =
             slice_set s.threads t (with_frames th (record (with_values f vs) { handles = local_handles s f target.var i (length s.threads) } ∷ below))
-            ++ thread_of (frame_of c s.made of.number (arg ∷ [])) ∷ [];
+            ++ thread_of c (frame_of c s.made of.number (arg ∷ [])) ∷ [];
         handles = global_handles s f target.var i (length s.threads);
         made = s.made + 1;
       },
@@ -122,6 +123,24 @@ joined_number s t th f below (suc n) = joined_some s t th f below (suc n) (slice
 abbrev pub joined_at : Configuration → ℕ → Thread → Frame → List Frame → Option ℕ → Made
 joined_at s t th f below None = trapped s trap.Index
 joined_at s t th f below (Some n) = joined_number s t th f below n
+
+-- a thread goes to sleep, by whether it holds the mutex, which becomes free
+abbrev pub slept : Configuration → ℕ → Thread → Frame → List Frame → VarId → VarId → Bool → Made
+slept s t th f below v m true =
+    Some (
+      record (with_sleepers (with_top_frame s t th f below) v (with_sleeper t (sleepers_of s v))) {
+        owners = slice_set s.owners m.number None;
+      },
+      event.Sleep v m,
+    )
+slept s t th f below v m false = trapped s trap.Unlock
+
+-- a thread wakes and locks the mutex, by whether it still sleeps and by the mutex's owner
+abbrev pub woken : Configuration → ℕ → Thread → Frame → List Frame → VarId → VarId → Bool → Option ℕ → Made
+woken s t th f below v m true owner = None
+woken s t th f below v m false (Some u) = None
+woken s t th f below v m false None =
+    Some (record (with_top_frame s t th f below) { owners = slice_set s.owners m.number (Some t) }, event.Wake v m)
 
 -- the bytes that a printf writes, from its string and its values: `%d` a value in decimal, `%%` a `%` (7.21.6.1 of
 -- ISO/IEC 9899:2011)
@@ -171,3 +190,8 @@ act c s t th f below (Call g) =
       },
       event.Call g,
     )
+act c s t th f below (Sleep v m) = slept s t th f below v m (holds (slice_index_or s.owners m.number None) t)
+act c s t th f below (Wake v m) = woken s t th f below v m (sleeps t (sleepers_of s v)) (slice_index_or s.owners m.number None)
+act c s t th f below (Signal v) =
+    Some (with_sleepers (with_top_frame s t th f below) v (all_but_lowest (sleepers_of s v)), event.Signal v)
+act c s t th f below (Broadcast v) = Some (with_sleepers (with_top_frame s t th f below) v [], event.Broadcast v)

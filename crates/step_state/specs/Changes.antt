@@ -76,10 +76,6 @@ frame_of c serial f args = record {
   work = arrive c (Start (fn_id f));
 }
 
--- a thread that begins with this frame
-abbrev pub thread_of : Frame → Thread
-thread_of f = record { frames = f ∷ []; joined = false; held = []; missed = [] }
-
--- A list with a value at a place, where a place that the list does not have is this by default.
-abbrev pub put_at : {A : Type 0} → A → List A → ℕ → A → List A
-put_at default xs k v = slice_set (xs ++ replicate (k + 1 - length xs) default) k v
+-- a thread that begins with this frame, in no lock
+abbrev pub thread_of : Code → Frame → Thread
+thread_of c f = record { frames = f ∷ []; joined = false; held = replicate c.locks 0; missed = replicate c.locks 0 }

@@ -21,7 +21,8 @@ fn_id n = record { number = n }
 
 -- The items of a node, and of the right operand of an `&&` or `||`; the operations at a place, and the node that control
 -- meets after it, or the exit; the string of a printf, and whether a node is a `return` with a value; how many parameters
--- a function has, and what it declares; the global variables; main; the orders that begin with a token.
+-- a function has, and what it declares; the global variables; main; the orders that begin with a token;
+-- how many inserted locks and how many orders there are.
 pub record Code : Type 0 where
   pub items : ℕ → List Item
   pub operand : Operand → List Item
@@ -34,6 +35,8 @@ pub record Code : Type 0 where
   pub globals : List GlobalKind
   pub main : ℕ
   pub starts : List OrderId
+  pub locks : ℕ
+  pub orders : ℕ
 
 -- what a frame does when control is at the node, or at the exit
 abbrev pub go_to : Option ℕ → Item

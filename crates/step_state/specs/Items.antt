@@ -16,6 +16,7 @@ use Rattle.c_prog.specs.declared.stmt.Jump.{Jump}
 use Rattle.c_prog.specs.declared.stmt.Jump.TheVariants.{ReturnValue}
 use Rattle.c_prog.specs.declared.function.Function.{Function}
 use Rattle.c_prog.specs.declared.tree.Tree.{Tree}
+use Rattle.c_prog.specs.Marks.{tree_marks}
 use Rattle.c_prog.specs.Order.{Node, act, cond, step, jump, joined, function_order, node_at}
 use Rattle.c_prog.specs.Places.{ops}
 use Rattle.c_prog.specs.Valid.Functions.{is_main}
@@ -88,6 +89,9 @@ act_part x (form.Print text args) =
     both (args_part args) (own (λ n. item.Act (action.Print (node n) (length args))))
 act_part x (form.Scan target) =
     both (target_index target.index) (both (one (item.Act action.Take)) (write_var target.var (has_index target.index)))
+act_part x (form.Wait c m) = both (one (item.Act (action.Sleep c m))) (one (item.Act (action.Wake c m)))
+act_part x (form.Signal c) = one (item.Act (action.Signal c))
+act_part x (form.Broadcast c) = one (item.Act (action.Broadcast c))
 
 -- a jump: the value that it returns
 abbrev pub jump_part : Jump → Part
@@ -198,4 +202,6 @@ code_of tree next = record {
   globals = map (λ g. g.kind) tree.globals;
   main = main_of tree.functions;
   starts = tree.starts;
+  locks = (tree_marks tree).lock;
+  orders = (tree_marks tree).order;
 }

@@ -8,7 +8,7 @@ use Rattle.cfix_base.specs.declared.op.Op.TheVariants.{Leave, First, Done, Wait,
 use Rattle.step_state.specs.declared.event.Event.TheVariants as event
 use Rattle.step_state.specs.declared.thread.Thread.{Thread}
 use Rattle.step_state.specs.declared.state.Configuration.{Configuration}
-use Rattle.step_state.specs.Changes.{Made, with_thread, put_at}
+use Rattle.step_state.specs.Changes.{Made, with_thread}
 
 -- the lock is free, or this thread's
 abbrev pub may_enter : Option ℕ → ℕ → Bool
@@ -19,13 +19,13 @@ may_enter (Some u) t = u == t
 abbrev pub enter : Configuration → ℕ → Thread → LockId → (late may : Bool) → Made
 enter s t th k false true =
     Some (
-      record (with_thread s t (record th { held = put_at 0 th.held k.number (slice_index th.held k.number + 1) })) {
-        locks = put_at None s.locks k.number (Some t);
+      record (with_thread s t (record th { held = slice_set th.held k.number (slice_index th.held k.number + 1) })) {
+        locks = slice_set s.locks k.number (Some t);
       },
       event.Enter k,
     )
 enter s t th k true false =
-    Some (with_thread s t (record th { missed = put_at 0 th.missed k.number (slice_index th.missed k.number + 1) }), event.EnterMissed k)
+    Some (with_thread s t (record th { missed = slice_set th.missed k.number (slice_index th.missed k.number + 1) }), event.EnterMissed k)
 enter s t th k false false = None
 enter s t th k true true = None
 
@@ -72,8 +72,8 @@ operate s t th true (Add j) = None
 operate s t th false (Leave k) =
     Some (leave s t th k (slice_index th.held k.number) (slice_index th.missed k.number), event.Leave k)
 operate s t th false (First j) =
-    Some (record (with_thread s t th) { flags = put_at false s.flags j.number true }, event.First j)
+    Some (record (with_thread s t th) { flags = slice_set s.flags j.number true }, event.First j)
 operate s t th false (Done j) =
     Some (token_taken (with_thread s t th) j (slice_index s.tokens j.number), event.Done j)
 operate s t th false (Add j) =
-    Some (record (with_thread s t th) { tokens = put_at 0 s.tokens j.number (slice_index s.tokens j.number + 1) }, event.Add j)
+    Some (record (with_thread s t th) { tokens = slice_set s.tokens j.number (slice_index s.tokens j.number + 1) }, event.Add j)

@@ -67,7 +67,7 @@ abbrev pub NoTimeout : List Seen → Type 0
 NoTimeout [] = Unit {0}
 NoTimeout (m ∷ ms) = (is_missed m.event ≡ false) × NoTimeout ms
 
--- the node that work begins next; none where the exit is next
+-- the node that work begins behind its operations; none where the exit is next
 abbrev pub next_node : List Item → Option NodeId
 next_node [] = None
 next_node (item.Op op ∷ work) = next_node work
@@ -77,14 +77,6 @@ next_node (item.Go (move.Node n) ∷ work) = Some n
 next_node (item.Go (move.Branch n) ∷ work) = None
 next_node (item.Go (move.Edge n) ∷ work) = None
 next_node (item.Go move.Exit ∷ work) = None
-
--- a frame's node: that of its visit in progress, else the node that its work begins next
-abbrev pub frame_node : Option NodeId → List Item → Option NodeId
-frame_node None work = next_node work
-frame_node (Some n) work = Some n
-
-abbrev pub node_of : Frame → Option NodeId
-node_of f = frame_node f.visit f.work
 
 -- the serial number of the top frame
 abbrev pub top_serial : List Frame → Option ℕ

@@ -24,7 +24,7 @@ pub enum Ending {
 }
 
 /// What one step did. `cell` is the index within the variable, and 0 for a scalar. `Create` and
-/// `Join` name the other thread.
+/// `Join` name the other thread; `Sleep`, `Wake`, `Signal` and `Broadcast` the condition variable.
 #[derive(Debug, Drop)]
 pub enum Event {
     Begin(NodeId),
@@ -57,4 +57,14 @@ pub enum Event {
     Wait(OrderId),
     WaitMissed(OrderId),
     Add(OrderId),
+    Sleep {
+        cond: VarId,
+        mutex: VarId,
+    },
+    Wake {
+        cond: VarId,
+        mutex: VarId,
+    },
+    Signal(VarId),
+    Broadcast(VarId),
 }

@@ -71,7 +71,8 @@ pub enum Reduction {
 }
 
 /// An item that reads or changes what is outside its frame. `GetKeep` leaves the index among the
-/// values; `args` is how many values a printf takes.
+/// values; `args` is how many values a printf takes. A wait on a condition variable is a `Sleep`,
+/// which frees the mutex, and then a `Wake`, which locks it again.
 #[derive(Clone, Copy)]
 pub enum Action {
     Get(GlobalSite),
@@ -84,6 +85,10 @@ pub enum Action {
     Join(HandleSite),
     Print { node: NodeId, args: usize },
     Call(FnId),
+    Sleep { cond: VarId, mutex: VarId },
+    Wake { cond: VarId, mutex: VarId },
+    Signal(VarId),
+    Broadcast(VarId),
 }
 
 /// An item by which control goes on: the beginning of a visit, its end at a condition, its end at

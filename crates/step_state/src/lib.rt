@@ -2,6 +2,7 @@
 //! do; and what one step is.
 #![tactic(auto)]
 
+mod depths;
 mod event;
 mod frame;
 mod item;
@@ -10,6 +11,7 @@ mod state;
 mod table;
 mod thread;
 
+pub use depths::Depths;
 pub use event::{Bytes, Ending, Event, Trap};
 pub use frame::{Frame, FrameView};
 pub use item::{

@@ -14,15 +14,17 @@ use std::alloc::Global;
 use std::marker::Model;
 
 /// What a state is but for its count of steps. By the number of a global variable: the cells of an
-/// `int` variable, the thread numbers in a `pthread_t` variable (0 is none), the owner of a mutex.
-/// By the number of an inserted lock its owner, and by the number of an order its tokens and its
-/// flag; what is not kept is no owner, no token and no flag. `input` is what is left of the input,
-/// and `made` the number of frames made so far.
+/// `int` variable, the thread numbers in a `pthread_t` variable (0 is none), the owner of a mutex,
+/// the threads that sleep on a condition variable, by rising numbers. By the number of an inserted
+/// lock its owner, and by the number of an order its tokens and its flag, for all locks and orders
+/// below the program's marks. `input` is what is left of the input, and `made` the number of frames
+/// made so far.
 #[derive(Drop)]
 pub struct Configuration {
     pub globals: Table<Table<i32>>,
     pub handles: Table<Table<u32>>,
     pub owners: Table<Option<u32>>,
+    pub sleepers: Table<Table<u32>>,
     pub input: Stack<i32>,
     pub output: List<u8>,
     pub threads: Table<Thread>,
@@ -68,6 +70,7 @@ fn blank(alloc: Global) -> Configuration
         globals: Table::new(alloc),
         handles: Table::new(alloc),
         owners: Table::new(alloc),
+        sleepers: Table::new(alloc),
         input: Stack::new(alloc),
         output: List::new(alloc),
         threads: Table::new(alloc),

@@ -1,4 +1,4 @@
-ghost use Rattle.std.specs.Prelude.{◌≡◌, ◌∷◌, ◌++◌, ◌-◌, ◌<◌, [], OnErr, OnOk, length, replicate, take, MatchOption, Option, slice_get, slice_set, Some};
+ghost use Rattle.std.specs.Prelude.{◌≡◌, ◌∷◌, ◌++◌, ◌-◌, ◌<◌, ◌≤◌, [], OnErr, OnOk, drop, length, replicate, take, MatchOption, Option, slice_get, slice_set, Some};
 ghost use Rattle.std.specs.Borrow.{sem};
 
 use cfix_base::NoMemory;
@@ -89,11 +89,31 @@ impl<T: Drop> Table<T> {
 }
 
 impl<T: Drop> Table<T> {
-    /// Leaves out the items from this number on. It takes no memory.
-    pub fn truncate(&mut self, len: usize)
-        ensures { self.new ≡ take len self.old }
+    /// The items.
+    pub fn as_slice(&self) -> &[T]
+        ensures { result.now ≡ self.now }
     {
-        self.items.truncate(len);
+        self.items.as_slice()
+    }
+
+    /// Puts `item` before the item with this number, or at the end. After an error the table is as
+    /// before.
+    pub fn insert(&mut self, number: usize, item: T) -> Result<(), NoMemory>
+        requires { number ≤ length self.old }
+        ensures inserted { OnOk result (self.new ≡ take number self.old ++ item ∷ drop number self.old) }
+        ensures unchanged { OnErr result (self.new ≡ self.old) }
+    {
+        self.items.insert(number, item)?;
+        Ok(())
+    }
+
+    /// Leaves out the first item, if there is one. It takes no memory.
+    pub fn remove_first(&mut self)
+        ensures { self.new ≡ drop 1 self.old }
+    {
+        if self.items.len() > 0 {
+            self.items.remove(0);
+        }
     }
 }
 

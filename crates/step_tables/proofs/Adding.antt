@@ -81,6 +81,16 @@ adds_one item items sheet new is = record {
   place = past_nothing (at sheet);
 }
 
+-- two items that are no accesses
+pub adds_two : (first second : Item) (items : List Item) (sheet : Sheet) (new : List Item)
+    → new ≡ items ++ (first ∷ second ∷ []) → Adds (both (one first) (one second)) [] items sheet new sheet
+adds_two first second items sheet new is = record {
+  items = is;
+  operands = sym (append-nil sheet.operands);
+  variables = sym (append-nil sheet.variables);
+  place = past_nothing (at sheet);
+}
+
 -- the accesses of both operands
 operand_variables : (e l r : Expr) (op : BinOp) → e ≡ expr.Binary op l r
     → variables (expr_accesses l ++ expr_accesses r) ≡ variables (expr_accesses e)

@@ -1,11 +1,13 @@
 -- What the tables keep of the nodes of a program, in the order of the nodes.
 use Rattle.std.specs.Prelude.{◌≡◌, ℕ, ◌+◌, ◌<◌, ◌^◌, ◌++◌, List, [], ◌∷◌, map, length, Option, Some, None}
+use Rattle.cfix_base.specs.declared.mark.Marks.{Marks}
 use Rattle.cfix_base.specs.declared.number.VarId.{VarId}
 use Rattle.cfix_base.specs.declared.number.FnId.{FnId}
 use Rattle.c_prog.specs.declared.act.LocalKind.{LocalKind}
 use Rattle.c_prog.specs.declared.function.Function.{Function}
 use Rattle.c_prog.specs.declared.tree.Tree.{Tree}
 use Rattle.c_prog.specs.Accesses.{touches}
+use Rattle.c_prog.specs.Marks.{tree_marks}
 use Rattle.c_prog.specs.Order.{Node, act, function_order, joined}
 use Rattle.c_prog.specs.View.{seen}
 use Rattle.c_prog.specs.Valid.Locals.{act_locals, locals_of}
@@ -89,8 +91,9 @@ pub record Grows (of params : ℕ) (nodes : List Node) (old : List Row) (before 
   pub locals : after ≡ before ++ nodes_locals nodes
 
 -- what the tables of this program hold
-pub record AreTables (tree : Tree) (table : List Row) (kinds : List (List LocalKind)) (graphs : List Graph) (first : FnId) : Type 0 where
+pub record AreTables (tree : Tree) (table : List Row) (kinds : List (List LocalKind)) (graphs : List Graph) (first : FnId) (above : Marks) : Type 0 where
   pub rows : map kept table ≡ kept_tree tree
   pub locals : kinds ≡ map (λ f. locals_of f.body) tree.functions
   pub flows : graphs ≡ graphs_of tree
   pub main : first.number ≡ main_of tree.functions
+  pub marks : above ≡ tree_marks tree

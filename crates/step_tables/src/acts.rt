@@ -1,7 +1,9 @@
-ghost use Rattle.std.specs.Prelude.{◌≡◌, ◌+◌, ◌++◌, ◌<◌, ◌^◌, length, OnOk};
+ghost use Rattle.std.specs.Prelude.{◌≡◌, ◌+◌, ◌++◌, ◌∷◌, ◌<◌, ◌^◌, [], length, OnOk};
 ghost use Rattle.c_prog.specs.Accesses.{act_accesses, args_accesses, index_accesses, initial_accesses, kept_accesses, touched, value_accesses};
 ghost use Rattle.step_state.specs.Items.{act_part, assign_part, assigned, call_part, compound, declare_part, handle_site, unit, value_part};
 ghost use Rattle.step_state.specs.Parts.{both, has_index, target_index, write_var};
+ghost use Rattle.step_state.specs.declared.item.Item.TheVariants as item;
+ghost use Rattle.step_state.specs.declared.item.Action.TheVariants as action;
 ghost use Rattle.step_tables.specs.Adds.{Adds};
 ghost use Rattle.step_tables.specs.Uses.{operator_of, print_part, scan_part};
 
@@ -9,7 +11,7 @@ use crate::expressions::{add_args, add_expr, add_index};
 use crate::sheet::{Sheet, add_use};
 use crate::uses::Use;
 use c_prog::{Act, CallForm, Expr, How, Target, Value, Var};
-use cfix_base::{Access, List, NoMemory};
+use cfix_base::{Access, List, NoMemory, VarId};
 use std::alloc::Global;
 use step_state::{Action, Binary, HandleSite, Item, Reduction};
 
@@ -197,8 +199,18 @@ fn add_scan(
     Ok(())
 }
 
+// Adds the items of a wait on a condition variable.
+fn add_wait(items: &mut List<Item>, cond: VarId, mutex: VarId) -> Result<(), NoMemory>
+    ensures { OnOk result (items.new ≡ items.old ++ (item.Act (action.Sleep cond mutex) ∷ item.Act (action.Wake cond mutex) ∷ [])) }
+{
+    items.push(Item::Act(Action::Sleep { cond, mutex }))?;
+    items.push(Item::Act(Action::Wake { cond, mutex }))?;
+    Ok(())
+}
+
 /// Adds the items of a simple statement or a step, which declares the local with this number if it
 /// is a declaration.
+#[tactic(auto, using(crate::proofs::Adding::adds_two))]
 pub fn add_act(
     alloc: Global,
     items: &mut List<Item>,
@@ -233,6 +245,9 @@ pub fn add_act(
         Act::Unlock(mutex) => items.push(Item::Act(Action::Unlock(*mutex)))?,
         Act::Print { args, .. } => add_print(alloc, items, sheet, args.as_slice())?,
         Act::Scan(target) => add_scan(alloc, items, sheet, target)?,
+        Act::Wait { cond, mutex } => add_wait(items, *cond, *mutex)?,
+        Act::Signal(cond) => items.push(Item::Act(Action::Signal(*cond)))?,
+        Act::Broadcast(cond) => items.push(Item::Act(Action::Broadcast(*cond)))?,
     }
     Ok(())
 }

@@ -9,8 +9,8 @@ ghost use Rattle.step_tables.specs.TreeCode.{next_of, tree_code, variable_of};
 use crate::functions::{keep_tree, main_number};
 use crate::row::Row;
 use crate::views::{after_ops, false_ops, is_condition, node_gives, node_text, true_ops};
-use c_prog::{Function, Global as Variable, LocalKind, Program};
-use cfix_base::{AccessId, FnId, List, NoMemory, NodeId, Op, OrderId, Place, VarId};
+use c_prog::{Function, Global as Variable, LocalKind, Program, marks};
+use cfix_base::{AccessId, FnId, List, Marks, NoMemory, NodeId, Op, OrderId, Place, VarId};
 use flow_graph::{Flow, flows};
 use std::alloc::Global;
 use std::marker::Model;
@@ -25,6 +25,7 @@ pub struct Tables<'a> {
     locals: List<List<LocalKind>>,
     flows: List<Flow>,
     main: FnId,
+    marks: Marks,
 }
 
 impl<'a> Model for Tables<'a> {
@@ -40,7 +41,7 @@ impl<'a> Model for Tables<'a> {
 
     ghost use Rattle.step_tables.specs.Kept.{AreTables};
 
-    ghost invariant = { λ t. AreTables t.program.now t.rows t.locals t.flows t.main };
+    ghost invariant = { λ t. AreTables t.program.now t.rows t.locals t.flows t.main t.marks };
 }
 
 impl<'a> Tables<'a> {
@@ -60,6 +61,7 @@ impl<'a> Tables<'a> {
             locals: nodes.locals,
             flows,
             main,
+            marks: marks(program),
         })
     }
 
@@ -254,6 +256,22 @@ impl<'a> Tables<'a> {
         ensures { result.now ≡ (tree_code self.now).starts }
     {
         self.program.tree().starts.as_slice()
+    }
+
+    /// How many inserted locks there are: those below the program's mark.
+    #[tactic(auto, unfolding(crate::specs::TreeCode::tree_code))]
+    pub fn locks(&self) -> usize
+        ensures { result ≡ (tree_code self.now).locks }
+    {
+        self.marks.lock as usize
+    }
+
+    /// How many orders there are: those below the program's mark.
+    #[tactic(auto, unfolding(crate::specs::TreeCode::tree_code))]
+    pub fn orders(&self) -> usize
+        ensures { result ≡ (tree_code self.now).orders }
+    {
+        self.marks.order as usize
     }
 
     /// The variable of an access, if the program has the access.

@@ -1,5 +1,5 @@
 -- The lines of events: the number of the step, the thread, and what the step did.
-use Rattle.std.specs.Prelude.{ℕ, Bool, true, false, List, [], ◌∷◌, ◌++◌, codes, slice_get, Option, Some, None}
+use Rattle.std.specs.Prelude.{ℕ, List, [], ◌++◌, codes, slice_get, Option, Some, None}
 use Rattle.std.specs.Fmt.{decimal, signed_decimal}
 use Rattle.cfix_base.specs.declared.number.VarId.{VarId}
 use Rattle.c_prog.specs.declared.function.Function.{Function}
@@ -16,7 +16,10 @@ use Rattle.step_tables.specs.TreeCode.{variable_of}
 abbrev pub index_text : GlobalKind → ℕ → List ℕ
 index_text (kind.IntArray n) cell = in_brackets (decimal cell)
 index_text (kind.ThreadArray n) cell = in_brackets (decimal cell)
-index_text _ cell = []
+index_text (kind.Int value) cell = []
+index_text kind.Thread cell = []
+index_text kind.Mutex cell = []
+index_text kind.Cond cell = []
 
 -- a variable by its name, and an element of an array with its index; nothing where there is no such variable
 abbrev pub cell_text : Option Global → ℕ → List ℕ
@@ -41,17 +44,10 @@ global_of tree (Some v) = slice_get tree.globals v.number
 abbrev pub access_text : List ℕ → Tree → Option VarId → ℕ → List ℕ → List ℕ
 access_text word tree variable cell value = word ++ cell_text (global_of tree variable) cell ++ codes " " ++ value
 
--- what an inserted operation did
-abbrev pub operation_text : Event → List ℕ
-operation_text (event.Enter k) = codes "enter " ++ decimal k.number
-operation_text (event.EnterMissed k) = codes "enter " ++ decimal k.number ++ codes " missed"
-operation_text (event.Leave k) = codes "leave " ++ decimal k.number
-operation_text (event.First j) = codes "first " ++ decimal j.number
-operation_text (event.Done j) = codes "done " ++ decimal j.number
-operation_text (event.Wait j) = codes "wait " ++ decimal j.number
-operation_text (event.WaitMissed j) = codes "wait " ++ decimal j.number ++ codes " missed"
-operation_text (event.Add j) = codes "add " ++ decimal j.number
-operation_text _ = []
+-- a condition variable and a mutex, behind what was done with them
+abbrev pub waiting_text : List ℕ → Tree → VarId → VarId → List ℕ
+waiting_text word tree cond mutex =
+    word ++ variable_name (slice_get tree.globals cond.number) ++ codes " " ++ variable_name (slice_get tree.globals mutex.number)
 
 -- what a step did, where the access that it made, if it made one, is to this variable
 abbrev pub event_text : Tree → Option VarId → Event → List ℕ
@@ -69,7 +65,18 @@ event_text tree variable (event.Call f) = codes "call " ++ function_name (slice_
 event_text tree variable (event.Return value) = codes "return " ++ signed_decimal value
 event_text tree variable event.Exit = codes "exit"
 event_text tree variable (event.Trap t) = codes "trap"
-event_text tree variable operation = operation_text operation
+event_text tree variable (event.Sleep cond mutex) = waiting_text (codes "sleep ") tree cond mutex
+event_text tree variable (event.Wake cond mutex) = waiting_text (codes "wake ") tree cond mutex
+event_text tree variable (event.Signal cond) = codes "signal " ++ variable_name (slice_get tree.globals cond.number)
+event_text tree variable (event.Broadcast cond) = codes "broadcast " ++ variable_name (slice_get tree.globals cond.number)
+event_text tree variable (event.Enter k) = codes "enter " ++ decimal k.number
+event_text tree variable (event.EnterMissed k) = codes "enter " ++ decimal k.number ++ codes " missed"
+event_text tree variable (event.Leave k) = codes "leave " ++ decimal k.number
+event_text tree variable (event.First j) = codes "first " ++ decimal j.number
+event_text tree variable (event.Done j) = codes "done " ++ decimal j.number
+event_text tree variable (event.Wait j) = codes "wait " ++ decimal j.number
+event_text tree variable (event.WaitMissed j) = codes "wait " ++ decimal j.number ++ codes " missed"
+event_text tree variable (event.Add j) = codes "add " ++ decimal j.number
 
 -- the variable of the access that an event names, if it names one
 abbrev pub accessed : Tree → Event → Option VarId

@@ -1,7 +1,7 @@
 ghost use Rattle.std.specs.Prelude.{◌≡◌, ◌++◌, codes, decimal, slice_get, OnOk};
 ghost use Rattle.std.specs.Option.{option_copied};
 ghost use Rattle.std.specs.Fmt.{signed_decimal};
-ghost use Rattle.trace_text.specs.Events.{access_text, cell_text, event_text, function_name, global_of, index_text, operation_text, variable_name};
+ghost use Rattle.trace_text.specs.Events.{access_text, cell_text, event_text, function_name, global_of, index_text, variable_name, waiting_text};
 
 use crate::pieces::{add, add_number, add_quoted, add_value};
 use c_prog::{Function, Global as Variable, GlobalKind, Tree};
@@ -45,6 +45,20 @@ fn add_variable(text: &mut Vec<u8>, word: &[u8], tree: &Tree, id: VarId) -> Resu
     }
 }
 
+// Adds a condition variable and a mutex, behind the word for what was done with them.
+fn add_waiting(
+    text: &mut Vec<u8>,
+    word: &[u8],
+    tree: &Tree,
+    cond: VarId,
+    mutex: VarId,
+) -> Result<(), NoMemory>
+    ensures { OnOk result (text.new.items ≡ text.old.items ++ waiting_text word.now tree.now cond mutex) }
+{
+    add_variable(text, word, tree, cond)?;
+    add_variable(text, b" ", tree, mutex)
+}
+
 fn function(tree: &Tree, id: FnId) -> Option<&Function>
     ensures { option_copied result ≡ slice_get tree.now.functions id.number }
 {
@@ -69,7 +83,7 @@ fn add_index(text: &mut Vec<u8>, kind: GlobalKind, cell: u32) -> Result<(), NoMe
             add_numbered(text, b"[", cell)?;
             add(text, b"]")
         }
-        GlobalKind::Int(_) | GlobalKind::Thread | GlobalKind::Mutex => Ok(()),
+        GlobalKind::Int(_) | GlobalKind::Thread | GlobalKind::Mutex | GlobalKind::Cond => Ok(()),
     }
 }
 
@@ -110,22 +124,6 @@ fn add_access(
     add_valued(text, b" ", value)
 }
 
-fn add_operation(text: &mut Vec<u8>, event: &Event) -> Result<(), NoMemory>
-    ensures { OnOk result (text.new.items ≡ text.old.items ++ operation_text event.now) }
-{
-    match event {
-        Event::Enter(lock) => add_numbered(text, b"enter ", lock.number),
-        Event::EnterMissed(lock) => add_missed(text, b"enter ", lock.number),
-        Event::Leave(lock) => add_numbered(text, b"leave ", lock.number),
-        Event::First(order) => add_numbered(text, b"first ", order.number),
-        Event::Done(order) => add_numbered(text, b"done ", order.number),
-        Event::Wait(order) => add_numbered(text, b"wait ", order.number),
-        Event::WaitMissed(order) => add_missed(text, b"wait ", order.number),
-        Event::Add(order) => add_numbered(text, b"add ", order.number),
-        _ => Ok(()),
-    }
-}
-
 /// Adds what a step did. `id` is the variable of the access that it made, if it made one.
 pub fn add_event(
     text: &mut Vec<u8>,
@@ -153,6 +151,17 @@ pub fn add_event(
         Event::Return(value) => add_valued(text, b"return ", *value),
         Event::Exit => add(text, b"exit"),
         Event::Trap(_) => add(text, b"trap"),
-        _ => add_operation(text, event),
+        Event::Sleep { cond, mutex } => add_waiting(text, b"sleep ", tree, *cond, *mutex),
+        Event::Wake { cond, mutex } => add_waiting(text, b"wake ", tree, *cond, *mutex),
+        Event::Signal(cond) => add_variable(text, b"signal ", tree, *cond),
+        Event::Broadcast(cond) => add_variable(text, b"broadcast ", tree, *cond),
+        Event::Enter(lock) => add_numbered(text, b"enter ", lock.number),
+        Event::EnterMissed(lock) => add_missed(text, b"enter ", lock.number),
+        Event::Leave(lock) => add_numbered(text, b"leave ", lock.number),
+        Event::First(order) => add_numbered(text, b"first ", order.number),
+        Event::Done(order) => add_numbered(text, b"done ", order.number),
+        Event::Wait(order) => add_numbered(text, b"wait ", order.number),
+        Event::WaitMissed(order) => add_missed(text, b"wait ", order.number),
+        Event::Add(order) => add_numbered(text, b"add ", order.number),
     }
 }

@@ -16,7 +16,7 @@ use Rattle.c_prog.specs.declared.function.FnKind.{FnKind}
 use Rattle.c_prog.specs.declared.function.FnKind.TheVariants as kind
 use Rattle.c_prog.specs.Valid.Scope.{VarKind, Scope, is_in_block, nothing_declared, declared}
 use Rattle.c_prog.specs.Valid.Kinds.{File, file_of}
-use Rattle.c_prog.specs.Valid.Expressions.{is_mutex, is_int_kind, is_main_name}
+use Rattle.c_prog.specs.Valid.Expressions.{is_int_kind, is_main_name}
 use Rattle.c_prog.specs.Valid.Acts.{is_declared_name}
 use Rattle.c_prog.specs.Valid.Falls.{falls_through}
 use Rattle.c_prog.specs.Valid.Functions.{are_distinct, param_kind, is_valid_count, is_valid_function}
@@ -37,6 +37,7 @@ use Rattle.valid_law.proofs.Scopes.{fits-nothing, fits-params}
 use Rattle.valid_law.proofs.FileNames.{lexical-listed}
 use Rattle.valid_law.proofs.Declarations.{new-name}
 use Rattle.valid_law.proofs.Statements.{items-runs}
+use Rattle.valid_law.proofs.Uses.{is_global_kind}
 
 -- ---- parameters
 
@@ -110,10 +111,10 @@ params-valid names kind scope (p ∷ more) s e =
 
 -- ---- functions
 
-no-param-mutex : (k : FnKind) → is_mutex (Some (param_kind k)) ≡ false
-no-param-mutex kind.Int = refl
-no-param-mutex kind.Void = refl
-no-param-mutex kind.Thread = refl
+param-kind : (k : FnKind) → is_global_kind (param_kind k) ≡ false
+param-kind kind.Int = refl
+param-kind kind.Void = refl
+param-kind kind.Thread = refl
 
 count-valid : (head : f.Head) → is_valid_count (head_kind head) (length (map param_text (head_params head))) ≡ true
 count-valid (f.PlainHead static f.ReturnsInt at name before list after) = refl
@@ -140,7 +141,7 @@ module _ (names : Names) (file : File) (agrees : Agrees names file) where
       let own = items_faults names (body_around head) (body_scope head) items in
       let params = params-valid names kind nothing_declared (head_params head) (params-lexical head (lexical-left (head_marks head) _ s))
       (none-left (params_faults names kind nothing_declared (head_params head)) _ named) in
-      let fits = fits-params kind (map param_text (head_params head)) nothing_declared (no-param-mutex (head_kind head)) fits-nothing in
+      let fits = fits-params kind (map param_text (head_params head)) nothing_declared (param-kind (head_kind head)) fits-nothing in
       let runs = items-runs names file agrees 0 (body_around head) (body_scope head) items fits inside (none-left own _ last) in
       let falls = no_fault (is_int_kind (head_kind head) && (not (is_main_name (head_name head).text) && falls_through body)) (head_name head).spot NoReturn
       (none-left (end_faults head body) _ (none-right own _ last)) in

@@ -29,10 +29,10 @@ use Rattle.c_names.specs.declared.fault.FaultKind.TheVariants.{Limit}
 use Rattle.c_names.specs.Declarations.{head_params}
 use Rattle.c_names.specs.Faults.{fault_if}
 use Rattle.c_names.specs.Files as file
-use Rattle.c_names.specs.Files.{param_text, param_cells, global_int_cells, global_hold_cells, global_mutex_cells, globals_cells, top_functions, top_cells, top_faults, body_around, body_scope, body_of}
+use Rattle.c_names.specs.Files.{param_text, param_cells, global_int_cells, global_hold_cells, global_mutex_cells, global_cond_cells, globals_cells, top_functions, top_cells, top_faults, body_around, body_scope, body_of}
 use Rattle.c_names.specs.Limits.{Cells, cells_faults, local_int_cells, hold_cells, loop_int_cells, decl_cells, first_cells, stmt_cells, else_cells, items_cells, item_cells}
 use Rattle.c_names.specs.Scopes.{listed, local_int_declared, loop_int_declared, with_local, in_for, stmt_locals, item_after}
-use Rattle.c_names.specs.Sources.{global_int_of, global_hold_of, global_mutex_of, globals_of, top_globals, function_of, top_functions_of}
+use Rattle.c_names.specs.Sources.{global_int_of, global_hold_of, global_mutex_of, global_cond_of, globals_of, top_globals, function_of, top_functions_of}
 use Rattle.c_names.specs.SpelledExpressions.{target_of, stepped, plain_of, library_of, simple_of}
 use Rattle.c_names.specs.SpelledStatements.{op_of, ops_of, local_int_of, local_ints_of, hold_of, decl_of, loop_ints_of, with_ops, cond_of, test_of, step_of, bare_of, return_of, jump_of, first_of, for_of, as_item, stmt_of, else_of, items_of, item_of}
 use Rattle.c_names.specs.Uses.{Names}
@@ -84,15 +84,21 @@ mutex-cells : (x : d.GlobalMutex) → kind_cells (global_mutex_of x).kind ≡ (g
 mutex-cells (d.OneMutex x) = refl
 mutex-cells (d.SetMutex x at value) = refl
 
+cond-cells : (x : d.GlobalCond) → kind_cells (global_cond_of x).kind ≡ (global_cond_cells x).1
+cond-cells (d.OneCond x) = refl
+cond-cells (d.SetCond x at value) = refl
+
 globals-cells : (names : Names) (x : d.Globals) → global_cells (globals_of names x) ≡ in_cells (globals_cells names x)
 globals-cells names (d.GlobalInts at x more) = many-cells (global_int_of names) (global_int_cells names) (int-cells names) (listed x more)
 globals-cells names (d.GlobalHolds at x more) = many-cells (global_hold_of names) (global_hold_cells names) (hold-cells names) (listed x more)
 globals-cells names (d.GlobalMutexes at x more) = many-cells global_mutex_of global_mutex_cells mutex-cells (listed x more)
+globals-cells names (d.GlobalConds at x more) = many-cells global_cond_of global_cond_cells cond-cells (listed x more)
 
 globals-count : (names : Names) (x : d.Globals) → length (globals_of names x) ≡ length (map (λ (x : Cells). x.0) (globals_cells names x))
 globals-count names (d.GlobalInts at x more) = many-count (global_int_of names) (global_int_cells names) (int-cells names) (listed x more)
 globals-count names (d.GlobalHolds at x more) = many-count (global_hold_of names) (global_hold_cells names) (hold-cells names) (listed x more)
 globals-count names (d.GlobalMutexes at x more) = many-count global_mutex_of global_mutex_cells mutex-cells (listed x more)
+globals-count names (d.GlobalConds at x more) = many-count global_cond_of global_cond_cells cond-cells (listed x more)
 
 top-cells : (names : Names) (x : f.Top) → global_cells (top_globals names x) ≡ in_cells (top_cells names x)
 top-cells names (f.Include at name header) = refl
@@ -217,6 +223,9 @@ library-none names scope (s.Lock at before amp m after) = refl
 library-none names scope (s.Unlock at before amp m after) = refl
 library-none names scope (s.Print at before text more after) = refl
 library-none names scope (s.Scan at before text comma amp x after) = refl
+library-none names scope (s.Wait at before amp1 c comma amp2 m after) = refl
+library-none names scope (s.Signal at before amp c after) = refl
+library-none names scope (s.Broadcast at before amp c after) = refl
 
 simple-none : (names : Names) (scope : Scope) (x : s.Simple) → act_locals (simple_of names scope x) ≡ []
 simple-none names scope (s.PlainPart p) = plain-none names scope p

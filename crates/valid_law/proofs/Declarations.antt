@@ -29,7 +29,7 @@ use Rattle.valid_law.proofs.FileNames.{declared-name, lexical-listed}
 use Rattle.valid_law.proofs.Uses.{Means, means-of}
 use Rattle.valid_law.proofs.Expressions.{whole-valid, value-valid}
 use Rattle.valid_law.proofs.Simples.{plain-valid, plain-declares}
-use Rattle.valid_law.proofs.Scopes.{Fits, fits-declared, no-int-mutex, no-loop-mutex, passed-zero}
+use Rattle.valid_law.proofs.Scopes.{Fits, fits-declared, local-int-kind, loop-int-kind, passed-zero}
 use Rattle.valid_law.proofs.Runs.{Runs, runs-plain, AllDeclare, runs-acts}
 
 -- ---- declared names
@@ -83,7 +83,7 @@ module _ (names : Names) (file : File) (agrees : Agrees names file) where
       let inner = with_local (local_int_declared x) scope in (
         local-int-valid k scope x p (and_parts _ _ s).0 (none-left (local_int_faults names scope x) _ f),
         local-int-declares scope x,
-        local-ints-valid k inner xs (fits-declared (local_int_declared x).name (local_int_declared x).kind scope (no-int-mutex x) p) (and_parts _ _ s).1
+        local-ints-valid k inner xs (fits-declared (local_int_declared x).name (local_int_declared x).kind scope (local-int-kind x) p) (and_parts _ _ s).1
             (none-right (local_int_faults names scope x) _ f),
       )
 
@@ -133,7 +133,7 @@ module _ (names : Names) (file : File) (agrees : Agrees names file) where
       let inner = with_local (loop_int_declared x) scope in (
         loop-int-valid k scope x p (and_parts _ _ s).0 (none-left (loop_int_faults names scope x) _ f),
         loop-int-declares scope x,
-        loop-ints-valid k inner xs (fits-declared (loop_int_declared x).name (loop_int_declared x).kind scope (no-loop-mutex x) p) (and_parts _ _ s).1
+        loop-ints-valid k inner xs (fits-declared (loop_int_declared x).name (loop_int_declared x).kind scope (loop-int-kind x) p) (and_parts _ _ s).1
             (none-right (loop_int_faults names scope x) _ f),
       )
 

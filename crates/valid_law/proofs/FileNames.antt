@@ -11,7 +11,7 @@ use Rattle.c_grammar.specs.declared.word.Word.TheVariants as w
 use Rattle.c_grammar.specs.declared.sign.Sign.TheVariants as s
 use Rattle.c_grammar.specs.Reader.{each}
 use Rattle.c_grammar.specs.Token.{Ident, ident, word, sign, Mark}
-use Rattle.c_grammar.specs.Decl.{Hold, OneThread, Threads, hold_marks, more_holds_marks, GlobalInt, OneGlobal, SetGlobal, GlobalArray, global_int_marks, GlobalMutex, OneMutex, SetMutex, global_mutex_marks, Globals, GlobalInts, GlobalHolds, GlobalMutexes, globals_marks, qualifiers_marks}
+use Rattle.c_grammar.specs.Decl.{Hold, OneThread, Threads, hold_marks, more_holds_marks, GlobalInt, OneGlobal, SetGlobal, GlobalArray, global_int_marks, GlobalMutex, OneMutex, SetMutex, global_mutex_marks, GlobalCond, OneCond, SetCond, global_cond_marks, Globals, GlobalInts, GlobalHolds, GlobalMutexes, GlobalConds, globals_marks, qualifiers_marks}
 use Rattle.c_grammar.specs.File.{Return, return_word, Params, params_marks, name_marks, static_marks, Head, PlainHead, ThreadHead, head_marks, Top, Include, Define, Variables, Prototype, Function, File, top_marks, file_marks}
 use Rattle.c_prog.specs.declared.function.Function as fn
 use Rattle.c_prog.specs.declared.global.Global.{Global}
@@ -20,8 +20,8 @@ use Rattle.c_prog.specs.Valid.Functions.{are_distinct, are_declared_names, file_
 use Rattle.c_names.specs.Uses.{Meaning, OfVariable, OfFunction, OfNumber, Names}
 use Rattle.c_names.specs.Names.{reserved_faults}
 use Rattle.c_names.specs.Scopes.{listed}
-use Rattle.c_names.specs.Declarations.{Variable, global_int_variable, hold_variable, mutex_variable, variables, head_name, Declaration, numbered, declarations_from, declarations, is_of, is_declared, names_of}
-use Rattle.c_names.specs.Files.{twice_faults, all_twice_faults, no_main_faults, variable_faults, global_int_faults, global_hold_faults, global_mutex_faults, globals_faults, top_faults}
+use Rattle.c_names.specs.Declarations.{Variable, global_int_variable, hold_variable, mutex_variable, cond_variable, variables, head_name, Declaration, numbered, declarations_from, declarations, is_of, is_declared, names_of}
+use Rattle.c_names.specs.Files.{twice_faults, all_twice_faults, no_main_faults, variable_faults, global_int_faults, global_hold_faults, global_mutex_faults, global_cond_faults, globals_faults, top_faults}
 use Rattle.c_names.specs.Sources.{globals_of, top_globals, top_functions_of, source_of}
 use Rattle.valid_law.specs.Lexical.{are_lexical}
 use Rattle.valid_law.proofs.Lexical.{passes-each, lexical-all, lexical-left, lexical-right, lexical-tail, lexical-parts}
@@ -223,6 +223,10 @@ mutex-declared : (x : GlobalMutex) → are_lexical (global_mutex_marks 0 x) ≡ 
 mutex-declared (OneMutex x) l e = variable-declared x (lexical-parts (global_mutex_marks 0 (OneMutex x)) l).0 e
 mutex-declared (SetMutex x at value) l e = variable-declared x (lexical-parts (global_mutex_marks 0 (SetMutex x at value)) l).0 e
 
+cond-declared : (x : GlobalCond) → are_lexical (global_cond_marks 0 x) ≡ true → global_cond_faults x ≡ [] → is_declared_variable (cond_variable x) ≡ true
+cond-declared (OneCond x) l e = variable-declared x (lexical-parts (global_cond_marks 0 (OneCond x)) l).0 e
+cond-declared (SetCond x at value) l e = variable-declared x (lexical-parts (global_cond_marks 0 (SetCond x at value)) l).0 e
+
 -- the variables of a declaration have names that can be declared
 variables-declared : (names : Names) (list : Globals) → are_lexical (globals_marks 0 list) ≡ true → globals_faults names list ≡ [] → list_all is_declared_variable (variables list) ≡ true
 variables-declared names (GlobalInts at x more) l e =
@@ -237,6 +241,10 @@ variables-declared names (GlobalMutexes at x more) l e =
     list_all-map is_declared_variable mutex_variable (listed x more)
     ∙ passes-each (λ a. are_lexical (global_mutex_marks 0 a)) (λ a. is_declared_variable (mutex_variable a)) global_mutex_faults mutex-declared (listed x more)
     (lexical-listed 0 (global_mutex_marks 0) x more (lexical-tail (word w.Mutex at, 0) (global_mutex_marks 0 x ++ each (λ y. (sign s.Comma y.0, 0) ∷ global_mutex_marks 0 y.1) more) l)) e
+variables-declared names (GlobalConds at x more) l e =
+    list_all-map is_declared_variable cond_variable (listed x more)
+    ∙ passes-each (λ a. are_lexical (global_cond_marks 0 a)) (λ a. is_declared_variable (cond_variable a)) global_cond_faults cond-declared (listed x more)
+    (lexical-listed 0 (global_cond_marks 0) x more (lexical-tail (word w.Cond at, 0) (global_cond_marks 0 x ++ each (λ y. (sign s.Comma y.0, 0) ∷ global_cond_marks 0 y.1) more) l)) e
 
 globals-declared : (vs : List Variable) (gs : List Global) → Pairs vs gs → list_all is_declared_variable vs ≡ true → list_all is_declared_name (global_names gs) ≡ true
 globals-declared [] [] p h = refl

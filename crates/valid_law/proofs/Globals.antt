@@ -10,7 +10,7 @@ use Rattle.c_grammar.specs.declared.word.Word.TheVariants as w
 use Rattle.c_grammar.specs.declared.sign.Sign.TheVariants as s
 use Rattle.c_grammar.specs.Reader.{each}
 use Rattle.c_grammar.specs.Token.{ident, word, sign, Mark}
-use Rattle.c_grammar.specs.Decl.{Size, Count, Named, size_marks, Hold, OneThread, Threads, hold_marks, more_holds_marks, GlobalInt, OneGlobal, SetGlobal, GlobalArray, minus_marks, global_int_marks, GlobalMutex, OneMutex, SetMutex, Globals, GlobalInts, GlobalHolds, GlobalMutexes, globals_marks, qualifiers_marks}
+use Rattle.c_grammar.specs.Decl.{Size, Count, Named, size_marks, Hold, OneThread, Threads, hold_marks, more_holds_marks, GlobalInt, OneGlobal, SetGlobal, GlobalArray, minus_marks, global_int_marks, GlobalMutex, OneMutex, SetMutex, GlobalCond, OneCond, SetCond, Globals, GlobalInts, GlobalHolds, GlobalMutexes, GlobalConds, globals_marks, qualifiers_marks}
 use Rattle.c_grammar.specs.File.{Top, Include, Define, Variables, Prototype, Function, File, top_marks, file_marks}
 use Rattle.c_prog.specs.Valid.Acts.{is_length}
 use Rattle.c_prog.specs.Valid.Expressions.{is_number}
@@ -20,7 +20,7 @@ use Rattle.c_names.specs.Names.{number_or_one, size_number, size_length, length_
 use Rattle.c_names.specs.Scopes.{listed}
 use Rattle.c_names.specs.Declarations.{names_of}
 use Rattle.c_names.specs.Files.{variable_faults, number_faults, global_int_faults, global_hold_faults, globals_faults, top_faults}
-use Rattle.c_names.specs.Sources.{signed, global_int_of, global_hold_of, global_mutex_of, globals_of, top_globals, source_of}
+use Rattle.c_names.specs.Sources.{signed, global_int_of, global_hold_of, global_mutex_of, global_cond_of, globals_of, top_globals, source_of}
 use Rattle.valid_law.specs.Lexical.{are_lexical}
 use Rattle.valid_law.proofs.Faultless.{none-left, none-right, no_fault}
 use Rattle.valid_law.proofs.Lexical.{passes-each, lexical-all, lexical-left, lexical-right, lexical-tail, lexical-parts}
@@ -84,6 +84,11 @@ mutexes-valid [] = refl
 mutexes-valid (OneMutex x ∷ more) = mutexes-valid more
 mutexes-valid (SetMutex x at value ∷ more) = mutexes-valid more
 
+conds-valid : (xs : List GlobalCond) → list_all (λ x. is_valid_global (global_cond_of x).kind) xs ≡ true
+conds-valid [] = refl
+conds-valid (OneCond x ∷ more) = conds-valid more
+conds-valid (SetCond x at value ∷ more) = conds-valid more
+
 -- each variable of a declaration
 declaration-valid : (names : Names) → AreNumbers names → (list : Globals) → are_lexical (globals_marks 0 list) ≡ true → globals_faults names list ≡ []
     → list_all (λ global. is_valid_global global.kind) (globals_of names list) ≡ true
@@ -97,6 +102,8 @@ declaration-valid names numbers (GlobalHolds at x more) l e =
     (lexical-listed 0 (hold_marks 0) x more (lexical-tail (word w.Thread at, 0) (hold_marks 0 x ++ more_holds_marks 0 more) l)) e
 declaration-valid names numbers (GlobalMutexes at x more) l e =
     list_all-map (λ global. is_valid_global global.kind) global_mutex_of (listed x more) ∙ mutexes-valid (listed x more)
+declaration-valid names numbers (GlobalConds at x more) l e =
+    list_all-map (λ global. is_valid_global global.kind) global_cond_of (listed x more) ∙ conds-valid (listed x more)
 
 top-valid : (names : Names) → AreNumbers names → (top : Top) → are_lexical (top_marks top) ≡ true → top_faults names top ≡ [] → list_all (λ global. is_valid_global global.kind) (top_globals names top) ≡ true
 top-valid names numbers (Include at name header) l e = refl

@@ -42,6 +42,9 @@ one-local (act.Lock lock) = omega (arith)
 one-local (act.Unlock lock) = omega (arith)
 one-local (act.Print text args) = omega (arith)
 one-local (act.Scan target) = omega (arith)
+one-local (act.Wait waited lock) = omega (arith)
+one-local (act.Signal waited) = omega (arith)
+one-local (act.Broadcast waited) = omega (arith)
 
 level : (y : Stmt-F E) → AreFew (roll-Stmt (map-Stmt E Stmt (λ e. e.0) y))
 level (Stmt-F.Simple a ops) =

@@ -7,16 +7,16 @@ use Rattle.cfix_base.specs.declared.Spot.{Spot}
 use Rattle.c_grammar.specs.declared.sign.Sign.TheVariants as s
 use Rattle.c_grammar.specs.Reader.{each}
 use Rattle.c_grammar.specs.Token.{Ident, ident, sign, Mark}
-use Rattle.c_grammar.specs.Decl.{Hold, OneThread, Threads, GlobalInt, OneGlobal, SetGlobal, GlobalArray, GlobalMutex, OneMutex, SetMutex, Globals, GlobalInts, GlobalHolds, GlobalMutexes}
+use Rattle.c_grammar.specs.Decl.{Hold, OneThread, Threads, GlobalInt, OneGlobal, SetGlobal, GlobalArray, GlobalMutex, OneMutex, SetMutex, GlobalCond, OneCond, SetCond, Globals, GlobalInts, GlobalHolds, GlobalMutexes, GlobalConds}
 use Rattle.c_grammar.specs.File.{name_token, Replacement, Plainly, InParens, replacement_marks, Include, Define, Variables, Prototype, Function, File, top_marks, file_marks}
 use Rattle.c_prog.specs.declared.global.Global.{Global}
 use Rattle.c_prog.specs.Valid.Kinds.{Signature, signature_of, global_var_kind}
 use Rattle.c_prog.specs.Valid.Expressions.{is_number}
 use Rattle.c_names.specs.Uses.{Meaning, OfVariable, OfFunction, OfNumber, Names}
 use Rattle.c_names.specs.Scopes.{listed}
-use Rattle.c_names.specs.Declarations.{Variable, global_int_variable, hold_variable, mutex_variable, variables, replacement_number, head_name, head_kind, head_params, Declaration, numbered, declarations_from, first_meaning}
+use Rattle.c_names.specs.Declarations.{Variable, global_int_variable, hold_variable, mutex_variable, cond_variable, variables, replacement_number, head_name, head_kind, head_params, Declaration, numbered, declarations_from, first_meaning}
 use Rattle.c_names.specs.Files.{param_text}
-use Rattle.c_names.specs.Sources.{global_int_of, global_hold_of, global_mutex_of, globals_of, function_of, top_globals, top_functions_of}
+use Rattle.c_names.specs.Sources.{global_int_of, global_hold_of, global_mutex_of, global_cond_of, globals_of, function_of, top_globals, top_functions_of}
 use Rattle.valid_law.specs.Lexical.{are_lexical}
 use Rattle.valid_law.proofs.Lexical.{lexical-left, lexical-right, lexical-parts}
 
@@ -96,6 +96,10 @@ mutex-pair : (x : GlobalMutex) → ((global_mutex_of x).name ≡ (mutex_variable
 mutex-pair (OneMutex x) = (refl, refl)
 mutex-pair (SetMutex x at value) = (refl, refl)
 
+cond-pair : (x : GlobalCond) → ((global_cond_of x).name ≡ (cond_variable x).0.text) × (global_var_kind (global_cond_of x).kind ≡ (cond_variable x).1)
+cond-pair (OneCond x) = (refl, refl)
+cond-pair (SetCond x at value) = (refl, refl)
+
 map-pairs : {A : Type 0} (v : A → Variable) (h : A → Global) → ((a : A) → ((h a).name ≡ (v a).0.text) × (global_var_kind (h a).kind ≡ (v a).1))
     → (xs : List A) → Pairs (map v xs) (map h xs)
 map-pairs v h same [] = tt
@@ -105,6 +109,7 @@ pub pairs : (names : Names) (list : Globals) → Pairs (variables list) (globals
 pairs names (GlobalInts at x more) = map-pairs global_int_variable (global_int_of names) (int-pair names) (listed x more)
 pairs names (GlobalHolds at x more) = map-pairs hold_variable (global_hold_of names) (hold-pair names) (listed x more)
 pairs names (GlobalMutexes at x more) = map-pairs mutex_variable global_mutex_of mutex-pair (listed x more)
+pairs names (GlobalConds at x more) = map-pairs cond_variable global_cond_of cond-pair (listed x more)
 
 -- ---- declarations
 

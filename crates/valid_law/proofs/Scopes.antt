@@ -5,11 +5,10 @@ use Rattle.std.specs.List.{list_all}
 use Rattle.c_grammar.specs.Decl as d
 use Rattle.c_grammar.specs.Stmt as t
 use Rattle.c_prog.specs.Valid.Scope.{VarKind, Local, Scope, visible, nothing_declared, declared, entered, passed}
-use Rattle.c_prog.specs.Valid.Expressions.{is_mutex}
 use Rattle.c_prog.specs.Valid.Functions.{with_params}
 use Rattle.c_prog.specs.Valid.Statements.{Declared}
 use Rattle.c_names.specs.Scopes.{local_int_declared, hold_declared, loop_int_declared, with_local, with_locals, listed, decl_declared, first_declared, in_for, stmt_locals, items_locals, item_locals, item_after}
-use Rattle.valid_law.proofs.Uses.{IsPlaced}
+use Rattle.valid_law.proofs.Uses.{is_global_kind, IsPlaced}
 
 -- the locals that are visible here have falling numbers below the count
 abbrev pub Fits : Scope → Type 0
@@ -24,7 +23,7 @@ weaker bound higher (l ∷ more) h k =
 pub fits-nothing : Fits nothing_declared
 fits-nothing = tt
 
-pub fits-declared : (name : List ℕ) (kind : VarKind) (scope : Scope) → is_mutex (Some kind) ≡ false → Fits scope → Fits (declared name kind scope)
+pub fits-declared : (name : List ℕ) (kind : VarKind) (scope : Scope) → is_global_kind kind ≡ false → Fits scope → Fits (declared name kind scope)
 fits-declared name kind scope h k = (omega (arith), h, k)
 
 pub fits-entered : (scope : Scope) → Fits scope → Fits (entered scope)
@@ -33,44 +32,44 @@ fits-entered scope k = k
 pub fits-passed : (n : ℕ) (scope : Scope) → Fits scope → Fits (passed n scope)
 fits-passed n scope k = weaker scope.count (scope.count + n) (visible scope) (omega (arith)) k
 
--- no declaration of a body declares a mutex
-abbrev pub are_no_mutexes : List Declared → Bool
-are_no_mutexes locals = list_all (λ local. not (is_mutex (Some local.kind))) locals
+-- no declaration of a body declares a mutex or a condition variable
+abbrev pub are_local_kinds : List Declared → Bool
+are_local_kinds locals = list_all (λ local. not (is_global_kind local.kind)) locals
 
-pub fits-locals : (locals : List Declared) (scope : Scope) → are_no_mutexes locals ≡ true → Fits scope → Fits (with_locals locals scope)
+pub fits-locals : (locals : List Declared) (scope : Scope) → are_local_kinds locals ≡ true → Fits scope → Fits (with_locals locals scope)
 fits-locals [] scope h k = k
 fits-locals (local ∷ more) scope h k =
-    let hs = and_parts (not (is_mutex (Some local.kind))) (are_no_mutexes more) h in
+    let hs = and_parts (not (is_global_kind local.kind)) (are_local_kinds more) h in
     fits-locals more (with_local local scope) hs.1 (fits-declared local.name local.kind scope (not-true _ hs.0) k)
 
-pub fits-params : (kind : VarKind) (names : List (List ℕ)) (scope : Scope) → is_mutex (Some kind) ≡ false → Fits scope → Fits (with_params kind names scope)
+pub fits-params : (kind : VarKind) (names : List (List ℕ)) (scope : Scope) → is_global_kind kind ≡ false → Fits scope → Fits (with_params kind names scope)
 fits-params kind [] scope h k = k
 fits-params kind (name ∷ names) scope h k = fits-params kind names (declared name kind scope) h (fits-declared name kind scope h k)
 
-pub no-int-mutex : (x : d.LocalInt) → is_mutex (Some (local_int_declared x).kind) ≡ false
-no-int-mutex (d.OneLocal x) = refl
-no-int-mutex (d.SetLocal x at v) = refl
-no-int-mutex (d.LocalArray x before n after) = refl
+pub local-int-kind : (x : d.LocalInt) → is_global_kind (local_int_declared x).kind ≡ false
+local-int-kind (d.OneLocal x) = refl
+local-int-kind (d.SetLocal x at v) = refl
+local-int-kind (d.LocalArray x before n after) = refl
 
-pub no-hold-mutex : (x : d.Hold) → is_mutex (Some (hold_declared x).kind) ≡ false
-no-hold-mutex (d.OneThread x) = refl
-no-hold-mutex (d.Threads x before n after) = refl
+pub hold-kind : (x : d.Hold) → is_global_kind (hold_declared x).kind ≡ false
+hold-kind (d.OneThread x) = refl
+hold-kind (d.Threads x before n after) = refl
 
-pub no-loop-mutex : (x : d.LoopInt) → is_mutex (Some (loop_int_declared x).kind) ≡ false
-no-loop-mutex (d.OneLoop x) = refl
-no-loop-mutex (d.SetLoop x at e) = refl
+pub loop-int-kind : (x : d.LoopInt) → is_global_kind (loop_int_declared x).kind ≡ false
+loop-int-kind (d.OneLoop x) = refl
+loop-int-kind (d.SetLoop x at e) = refl
 
-no-mutexes : {A : Type 0} (f : A → Declared) → ((x : A) → is_mutex (Some (f x).kind) ≡ false) → (xs : List A) → are_no_mutexes (map f xs) ≡ true
-no-mutexes f h [] = refl
-no-mutexes f h (x ∷ xs) = rw (h x) (no-mutexes f h xs)
+local-kinds : {A : Type 0} (f : A → Declared) → ((x : A) → is_global_kind (f x).kind ≡ false) → (xs : List A) → are_local_kinds (map f xs) ≡ true
+local-kinds f h [] = refl
+local-kinds f h (x ∷ xs) = rw (h x) (local-kinds f h xs)
 
-decl-plain : (decl : d.Decl) → are_no_mutexes (decl_declared decl) ≡ true
-decl-plain (d.Ints at x more) = no-mutexes local_int_declared no-int-mutex (listed x more)
-decl-plain (d.Holds at x more) = no-mutexes hold_declared no-hold-mutex (listed x more)
+decl-plain : (decl : d.Decl) → are_local_kinds (decl_declared decl) ≡ true
+decl-plain (d.Ints at x more) = local-kinds local_int_declared local-int-kind (listed x more)
+decl-plain (d.Holds at x more) = local-kinds hold_declared hold-kind (listed x more)
 
-first-plain : (first : Option t.First) → are_no_mutexes (first_declared first) ≡ true
+first-plain : (first : Option t.First) → are_local_kinds (first_declared first) ≡ true
 first-plain None = refl
-first-plain (Some (t.FirstInts at x more)) = no-mutexes loop_int_declared no-loop-mutex (listed x more)
+first-plain (Some (t.FirstInts at x more)) = local-kinds loop_int_declared loop-int-kind (listed x more)
 first-plain (Some (t.FirstPlain p)) = refl
 
 pub fits-for : (first : Option t.First) (scope : Scope) → Fits scope → Fits (in_for first scope)

@@ -1,5 +1,5 @@
 -- Simple statements without faults spell valid ones.
-use Rattle.std.proofs.Common.{◌≡◌, ℕ, suc, pos, ◌+◌, ◌==◌, Bool, true, false, not, ◌||◌, List, [], ◌∷◌, ◌++◌, map, length, cond, Some, None, option_map, refl, ap, sym, ◌∙◌, arith, true≢false, if◌then◌else◌}
+use Rattle.std.proofs.Common.{◌≡◌, ℕ, suc, pos, ◌+◌, ◌==◌, Bool, true, false, not, ◌||◌, List, [], ◌∷◌, ◌++◌, map, length, cond, Option, Some, None, option_map, refl, ap, sym, ◌∙◌, arith, true≢false, if◌then◌else◌}
 use Rattle.std.proofs.lemmas.Bool.{and_parts, and_from, not-false}
 use Rattle.std.proofs.lemmas.List.{length-map}
 use Rattle.std.proofs.lemmas.List.Sums.{sum_by-append}
@@ -15,9 +15,10 @@ use Rattle.c_prog.specs.declared.act.Value.TheVariants as value
 use Rattle.c_prog.specs.declared.expr.Expr.{Expr}
 use Rattle.c_prog.specs.declared.expr.Var.TheVariants as var
 use Rattle.c_prog.specs.declared.expr.Target.{Target}
-use Rattle.c_prog.specs.Valid.Scope.{Scope}
+use Rattle.c_prog.specs.Valid.Scope as k
+use Rattle.c_prog.specs.Valid.Scope.{VarKind, Scope}
 use Rattle.c_prog.specs.Valid.Kinds.{File, kind_here, function_here}
-use Rattle.c_prog.specs.Valid.Expressions.{is_valid_expr, is_int_target, is_mutex, is_thread_function}
+use Rattle.c_prog.specs.Valid.Expressions.{is_valid_expr, is_int_target, is_mutex, is_cond, is_thread_function}
 use Rattle.c_prog.specs.Valid.Acts.{is_valid_assigned, is_valid_act, is_step}
 use Rattle.c_prog.specs.Valid.Statements.{declares}
 use Rattle.c_prog.specs.Valid.Strings.{is_string, directives_left, directives, is_count}
@@ -25,16 +26,16 @@ use Rattle.c_prog.proofs.ValidEquations.{valid-Number}
 use Rattle.c_names.specs.declared.fault.FaultKind.TheVariants.{Arity, WrongUse}
 use Rattle.c_names.specs.Faults.{fault_if}
 use Rattle.c_names.specs.Uses.{Names, Use, IsLocal, IsGlobal, IsFunction, IsDefined, IsUnknown, use_of, kind_of, global_number, function_number}
-use Rattle.c_names.specs.Names.{reserved_faults}
+use Rattle.c_names.specs.Names.{reserved_faults, use_faults}
 use Rattle.c_names.specs.Strings.{pairs_from, is_number_pair, is_other_pair, numbers_in, has_other}
 use Rattle.c_names.specs.Expressions.{exprs_faults, int_target_faults, thread_target_faults}
-use Rattle.c_names.specs.Simples.{plain_faults, thread_arg_faults, is_thread_function_use, created_faults, mutex_faults, printf_faults, library_faults, simple_faults}
+use Rattle.c_names.specs.Simples.{plain_faults, thread_arg_faults, is_thread_function_use, created_faults, mutex_faults, cond_faults, printf_faults, library_faults, simple_faults}
 use Rattle.c_names.specs.SpelledExpressions.{expr_of, exprs_of, target_of, how_of, stepped, plain_of, thread_arg_of, library_of, simple_of}
 use Rattle.valid_law.specs.Lexical.{are_lexical}
 use Rattle.valid_law.proofs.Pieces.{pieces-right, lexical-pieces}
 use Rattle.valid_law.proofs.Faultless.{none-left, none-right, no_fault}
 use Rattle.valid_law.proofs.Lexical.{lexical-left, lexical-right}
-use Rattle.valid_law.proofs.Uses.{Means}
+use Rattle.valid_law.proofs.Uses.{is_global_kind, Means}
 use Rattle.valid_law.proofs.Expressions.{used, expr-valid, whole-valid, more-valid, int-target, thread-target, call-valid, valued-call}
 
 -- ---- the strings of printf
@@ -91,6 +92,9 @@ module _ (names : Names) (inner : Scope) where
   library-declares (m.Unlock at before amp x after) = refl
   library-declares (m.Print at before text more after) = refl
   library-declares (m.Scan at before text comma amp t after) = refl
+  library-declares (m.Wait at before amp1 x comma amp2 y after) = refl
+  library-declares (m.Signal at before amp x after) = refl
+  library-declares (m.Broadcast at before amp x after) = refl
 
   -- none of them declares a local
   pub simple-declares : (x : m.Simple) → declares (simple_of names inner x) ≡ None
@@ -98,6 +102,26 @@ module _ (names : Names) (inner : Scope) where
   simple-declares (m.SetCall t at c) = refl
   simple-declares (m.OnlyCall c) = refl
   simple-declares (m.LibraryPart l) = library-declares l
+
+-- no local is a mutex, or a condition variable
+
+no-mutex : (kind : VarKind) → is_global_kind kind ≡ false → is_mutex (Some kind) ≡ false
+no-mutex k.int h = refl
+no-mutex k.int_array h = refl
+no-mutex k.thread h = refl
+no-mutex k.thread_array h = refl
+no-mutex k.mutex h = h
+no-mutex k.cond h = refl
+no-mutex k.argument h = refl
+
+no-cond : (kind : VarKind) → is_global_kind kind ≡ false → is_cond (Some kind) ≡ false
+no-cond k.int h = refl
+no-cond k.int_array h = refl
+no-cond k.thread h = refl
+no-cond k.thread_array h = refl
+no-cond k.mutex h = refl
+no-cond k.cond h = h
+no-cond k.argument h = refl
 
 module _ (names : Names) (file : File) (scope inner : Scope) (means : (text : List ℕ) → Means file scope text (use_of names inner text)) where
   -- assignments, `++` and `--`
@@ -143,19 +167,29 @@ module _ (names : Names) (file : File) (scope inner : Scope) (means : (text : Li
   created text (IsDefined v) known h = absurd (true≢false (sym h))
   created text IsUnknown known h = absurd (true≢false (sym h))
 
-  locked : (text : List ℕ) (u : Use) → Means file scope text u → is_mutex (kind_of u) ≡ true
-      → is_mutex (kind_here file scope (var.Global (record { number = global_number u }))) ≡ true
-  locked text (IsGlobal n k) known h = ap is_mutex known.0 ∙ h
-  locked text (IsLocal n k) known h = absurd (true≢false (sym h ∙ known.1))
-  locked text (IsFunction n k p) known h = absurd (true≢false (sym h))
-  locked text (IsDefined v) known h = absurd (true≢false (sym h))
-  locked text IsUnknown known h = absurd (true≢false (sym h))
+  module _ (test : Option VarKind → Bool) (none : test None ≡ false) (locals : (kind : VarKind) → is_global_kind kind ≡ false → test (Some kind) ≡ false) where
+    -- a name whose variable has a kind that is never that of a local
+    held : (text : List ℕ) (u : Use) → Means file scope text u → test (kind_of u) ≡ true
+        → test (kind_here file scope (var.Global (record { number = global_number u }))) ≡ true
+    held text (IsGlobal n kind) known h = ap test known.0 ∙ h
+    held text (IsLocal n kind) known h = absurd (true≢false (sym h ∙ locals kind known.1))
+    held text (IsFunction n kind p) known h = absurd (true≢false (sym h ∙ none))
+    held text (IsDefined v) known h = absurd (true≢false (sym h ∙ none))
+    held text IsUnknown known h = absurd (true≢false (sym h ∙ none))
+
+    held-valid : (x : Ident) → reserved_faults x ++ use_faults (test (kind_of (use_of names inner x.text))) (use_of names inner x.text) x.spot ≡ []
+        → test (kind_here file scope (var.Global (record { number = global_number (use_of names inner x.text) }))) ≡ true
+    held-valid x f =
+        let u = use_of names inner x.text in
+        held x.text u (means x.text) (used (test (kind_of u)) u x.spot (none-right (reserved_faults x) _ f))
 
   mutex-valid : (x : Ident) → mutex_faults names inner x ≡ []
       → is_mutex (kind_here file scope (var.Global (record { number = global_number (use_of names inner x.text) }))) ≡ true
-  mutex-valid x f =
-      let u = use_of names inner x.text in
-      locked x.text u (means x.text) (used (is_mutex (kind_of u)) u x.spot (none-right (reserved_faults x) _ f))
+  mutex-valid x f = held-valid is_mutex refl no-mutex x f
+
+  cond-valid : (x : Ident) → cond_faults names inner x ≡ []
+      → is_cond (kind_here file scope (var.Global (record { number = global_number (use_of names inner x.text) }))) ≡ true
+  cond-valid x f = held-valid is_cond refl no-cond x f
 
   printed : (d : ℕ) (text : Text) (at : Spot) (more : List (Spot × g.Expr)) → is_string text.bytes ≡ true → are_lexical (more_exprs_marks d more) ≡ true
       → printf_faults (length more) text.bytes at ++ (fault_if (has_other text.bytes) text.spot WrongUse ++ exprs_faults names inner (map (λ y. y.1) more)) ≡ []
@@ -189,6 +223,10 @@ module _ (names : Names) (file : File) (scope inner : Scope) (means : (text : Li
       printed d text at more parts.0 (lexical-left (more_exprs_marks d more) _ parts.1) e
   library-valid d (m.Scan at before text comma amp t after) s e =
       int-target names file scope inner means d t (lexical-left (target_marks d t) _ (and_parts _ _ s).1) (none-right (fault_if _ text.spot WrongUse) _ e)
+  library-valid d (m.Wait at before amp1 x comma amp2 y after) s e =
+      and_from _ _ (cond-valid x (none-left (cond_faults names inner x) _ e)) (mutex-valid y (none-right (cond_faults names inner x) _ e))
+  library-valid d (m.Signal at before amp x after) s e = cond-valid x e
+  library-valid d (m.Broadcast at before amp x after) s e = cond-valid x e
 
   -- a simple statement that is no declaration
   pub simple-valid : (d : ℕ) (x : m.Simple) → are_lexical (simple_marks d x) ≡ true → simple_faults names inner x ≡ [] → is_valid_act file scope (simple_of names inner x) ≡ true

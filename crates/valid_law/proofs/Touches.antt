@@ -205,6 +205,9 @@ module _ (names : Names) (scope : Scope) (d : ℕ) where
         target-few names scope x,
         length-append (target_marks d x) ((sign sign_of.CloseParen after, d) ∷ []),
       )
+  library-few (s.Wait at before amp1 c comma amp2 m after) = omega (arith)
+  library-few (s.Signal at before amp c after) = omega (arith)
+  library-few (s.Broadcast at before amp c after) = omega (arith)
 
   simple-few : (x : s.Simple) → length (simple_lines names scope x) ≤ length (simple_marks d x)
   simple-few (s.PlainPart p) = plain-few p

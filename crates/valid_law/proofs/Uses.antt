@@ -6,26 +6,33 @@ use Rattle.c_prog.specs.declared.expr.Var.TheVariants as var
 use Rattle.c_prog.specs.declared.global.Global.{Global}
 use Rattle.c_prog.specs.declared.global.GlobalKind.{GlobalKind}
 use Rattle.c_prog.specs.declared.global.GlobalKind.TheVariants as global_kind
+use Rattle.c_prog.specs.Valid.Scope as s
 use Rattle.c_prog.specs.Valid.Scope.{VarKind, Local, Scope, visible, is_named, is_hidden, local_named, is_numbered, local_here}
 use Rattle.c_prog.specs.Valid.Kinds.{Signature, File, global_var_kind, global_seen, function_seen, kind_here, function_here}
-use Rattle.c_prog.specs.Valid.Expressions.{is_argument, is_mutex, is_number}
+use Rattle.c_prog.specs.Valid.Expressions.{is_argument, is_number}
 use Rattle.c_names.specs.Uses.{Meaning, OfVariable, OfFunction, OfNumber, Names, Use, IsLocal, IsGlobal, IsFunction, IsDefined, IsUnknown, file_use, local_use, use_of}
 use Rattle.valid_law.specs.Agrees.{Agrees}
 use Rattle.valid_law.proofs.Lookups.{bytes-same, same-some, none-some}
 
+-- the kind of a mutex or a condition variable, which is never that of a local
+abbrev pub is_global_kind : VarKind → Bool
+is_global_kind s.mutex = true
+is_global_kind s.cond = true
+is_global_kind _ = false
+
 -- What a name stands for is there in the program, under its number.
 abbrev pub Means : File → Scope → List ℕ → Use → Type 0
-Means file scope text (IsLocal n kind) = (kind_here file scope (var.Local n) ≡ Some kind) × (is_mutex (Some kind) ≡ false)
+Means file scope text (IsLocal n kind) = (kind_here file scope (var.Local n) ≡ Some kind) × (is_global_kind kind ≡ false)
 Means file scope text (IsGlobal n kind) = (kind_here file scope (var.Global (record { number = n })) ≡ Some kind) × (is_argument (Some kind) ≡ false)
 Means file scope text (IsFunction n kind params) =
     function_here file scope (record { number = n }) ≡ Some (record { name = text; kind = kind; params = params })
 Means file scope text (IsDefined value) = is_number value ≡ true
 Means file scope text IsUnknown = Unit {0}
 
--- The numbers of visible locals fall, and are below the count; none of them is a mutex.
+-- The numbers of visible locals fall, and are below the count; none of them has the kind of a mutex or a condition variable.
 abbrev pub IsPlaced : ℕ → List Local → Type 0
 IsPlaced bound [] = Unit {0}
-IsPlaced bound (local ∷ more) = (local.number < bound) × (is_mutex (Some local.kind) ≡ false) × IsPlaced local.number more
+IsPlaced bound (local ∷ more) = (local.number < bound) × (is_global_kind local.kind ≡ false) × IsPlaced local.number more
 
 -- ---- look-ups
 
@@ -48,16 +55,16 @@ none-any p (y ∷ xs) e = none-by y (find p xs) (p y) (list_any p xs) e (λ g. n
 -- ---- locals
 
 -- what holds of the local that is found
-below-by : (bound : ℕ) (y l : Local) (rest : Option Local) (b : Bool) → (y.number < bound) × (is_mutex (Some y.kind) ≡ false)
-    → cond b (Some y) rest ≡ Some l → (rest ≡ Some l → (l.number < y.number) × (is_mutex (Some l.kind) ≡ false)) → (l.number < bound) × (is_mutex (Some l.kind) ≡ false)
-below-by bound y l rest true k e g = subst (λ (z : Local). (z.number < bound) × (is_mutex (Some z.kind) ≡ false)) (same-some y l e) k
+below-by : (bound : ℕ) (y l : Local) (rest : Option Local) (b : Bool) → (y.number < bound) × (is_global_kind y.kind ≡ false)
+    → cond b (Some y) rest ≡ Some l → (rest ≡ Some l → (l.number < y.number) × (is_global_kind l.kind ≡ false)) → (l.number < bound) × (is_global_kind l.kind ≡ false)
+below-by bound y l rest true k e g = subst (λ (z : Local). (z.number < bound) × (is_global_kind z.kind ≡ false)) (same-some y l e) k
 below-by bound y l rest false k e g =
     let more = g e in
     let first : y.number < bound = k.0 in
     let second : l.number < y.number = more.0 in
     (omega (arith, first, second), more.1)
 
-find-below : (p : Local → Bool) (bound : ℕ) (xs : List Local) (l : Local) → IsPlaced bound xs → find p xs ≡ Some l → (l.number < bound) × (is_mutex (Some l.kind) ≡ false)
+find-below : (p : Local → Bool) (bound : ℕ) (xs : List Local) (l : Local) → IsPlaced bound xs → find p xs ≡ Some l → (l.number < bound) × (is_global_kind l.kind ≡ false)
 find-below p bound [] l k e = none-some l e
 find-below p bound (y ∷ xs) l k e = below-by bound y l (find p xs) (p y) (k.0, k.1) e (λ g. find-below p y.number xs l k.2 g)
 
@@ -101,6 +108,7 @@ no-argument global kind e = subst (λ z. is_argument (Some z) ≡ false) e (neve
     never global_kind.Thread = refl
     never (global_kind.ThreadArray count) = refl
     never global_kind.Mutex = refl
+    never global_kind.Cond = refl
 
 module _ (names : Names) (file : File) (agrees : Agrees names file) (scope : Scope) (placed : IsPlaced scope.count (visible scope)) where
   means-local : (text : List ℕ) (l : Local) → local_named text scope ≡ Some l → Means file scope text (IsLocal l.number l.kind)

@@ -62,3 +62,7 @@ act_text names (act.Print text args) =
     codes "printf(" ++ quoted text ++ joined (map (λ e. codes ", " ++ expr_text names e) args) ++ codes ")"
 act_text names (act.Scan target) =
     codes "scanf(" ++ quoted (codes "%d") ++ codes ", &" ++ target_text names target ++ codes ")"
+act_text names (act.Wait c m) =
+    codes "pthread_cond_wait(&" ++ name_at names.globals c.number ++ codes ", &" ++ name_at names.globals m.number ++ codes ")"
+act_text names (act.Signal c) = codes "pthread_cond_signal(&" ++ name_at names.globals c.number ++ codes ")"
+act_text names (act.Broadcast c) = codes "pthread_cond_broadcast(&" ++ name_at names.globals c.number ++ codes ")"

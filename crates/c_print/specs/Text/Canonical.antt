@@ -36,6 +36,7 @@ global_text name (kind.IntArray n) = codes "int " ++ name ++ in_brackets (decima
 global_text name kind.Thread = codes "pthread_t " ++ name
 global_text name (kind.ThreadArray n) = codes "pthread_t " ++ name ++ in_brackets (decimal n)
 global_text name kind.Mutex = codes "pthread_mutex_t " ++ name ++ codes " = PTHREAD_MUTEX_INITIALIZER"
+global_text name kind.Cond = codes "pthread_cond_t " ++ name ++ codes " = PTHREAD_COND_INITIALIZER"
 
 abbrev pub global_line : Global → List ℕ
 global_line global = ended (global_text global.name global.kind)

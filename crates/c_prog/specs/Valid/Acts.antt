@@ -3,7 +3,7 @@ use Rattle.std.specs.Prelude.{ℕ, Bool, true, false, not, ◌&&◌, nat_le, Lis
 use Rattle.std.specs.List.{list_all}
 use Rattle.cfix_base.specs.Words.{is_name_text, is_reserved_text}
 use Rattle.c_prog.specs.declared.act.Act.{Act}
-use Rattle.c_prog.specs.declared.act.Act.TheVariants.{Declare, Assign, Up, Down, Call, Create, Join, Lock, Unlock, Print, Scan}
+use Rattle.c_prog.specs.declared.act.Act.TheVariants.{Declare, Assign, Up, Down, Call, Create, Join, Lock, Unlock, Print, Scan, Wait, Signal, Broadcast}
 use Rattle.c_prog.specs.declared.act.How.{How}
 use Rattle.c_prog.specs.declared.act.How.TheVariants.{Set}
 use Rattle.c_prog.specs.declared.act.LocalKind.{LocalKind}
@@ -14,7 +14,7 @@ use Rattle.c_prog.specs.declared.expr.Var.TheVariants as var
 use Rattle.c_prog.specs.Valid.Scope.{Scope, is_in_block, declared}
 use Rattle.c_prog.specs.Valid.Kinds.{File, local_var_kind, kind_here, function_here}
 use Rattle.c_prog.specs.Valid.Strings.{is_string, directives, is_count}
-use Rattle.c_prog.specs.Valid.Expressions.{is_valid_expr, is_int_target, is_thread_target, is_mutex, is_thread_function, is_valid_call, is_valid_value}
+use Rattle.c_prog.specs.Valid.Expressions.{is_valid_expr, is_int_target, is_thread_target, is_mutex, is_cond, is_thread_function, is_valid_call, is_valid_value}
 
 -- a name that can be declared: no word, and with none of the beginnings that are reserved
 abbrev pub is_declared_name : List ℕ → Bool
@@ -64,6 +64,10 @@ is_valid_act file scope (Unlock lock) = is_mutex (kind_here file scope (var.Glob
 is_valid_act file scope (Print text args) =
     is_string text && is_count (length args) (directives text) && list_all (is_valid_expr file scope) args
 is_valid_act file scope (Scan target) = is_int_target file scope target
+is_valid_act file scope (Wait waited lock) =
+    is_cond (kind_here file scope (var.Global waited)) && is_mutex (kind_here file scope (var.Global lock))
+is_valid_act file scope (Signal waited) = is_cond (kind_here file scope (var.Global waited))
+is_valid_act file scope (Broadcast waited) = is_cond (kind_here file scope (var.Global waited))
 
 -- what can be the step of a `for`: an assignment of an expression, `++` or `--`
 abbrev pub is_step : Act → Bool

@@ -11,7 +11,7 @@ use Rattle.c_prog.specs.declared.expr.Expr.TheOpen.{Expr-F, Target-F}
 use Rattle.c_prog.specs.declared.expr.Expr.TheFolds.{fold-Expr, fold-Target}
 use Rattle.c_prog.specs.declared.function.FnKind.{FnKind}
 use Rattle.c_prog.specs.declared.function.FnKind.TheVariants as fn_kind
-use Rattle.c_prog.specs.Valid.Scope.{VarKind, int, int_array, thread, thread_array, mutex, argument, Scope, local_here}
+use Rattle.c_prog.specs.Valid.Scope.{VarKind, int, int_array, thread, thread_array, mutex, cond, argument, Scope, local_here}
 use Rattle.c_prog.specs.Valid.Kinds.{Signature, File, kind_here, function_here}
 
 -- A variable as it is used at a place: its kind, where its name means it there, and whether its index keeps the rules,
@@ -41,6 +41,11 @@ is_argument _ = false
 abbrev pub is_mutex : Option VarKind → Bool
 is_mutex (Some mutex) = true
 is_mutex _ = false
+
+-- a condition variable
+abbrev pub is_cond : Option VarKind → Bool
+is_cond (Some cond) = true
+is_cond _ = false
 
 -- a number that a text spells: it has no sign, and is at most 2147483647
 abbrev pub is_number : ℤ → Bool

@@ -39,6 +39,7 @@ is_valid_global (global_kind.IntArray count) = is_length count
 is_valid_global global_kind.Thread = true
 is_valid_global (global_kind.ThreadArray count) = is_length count
 is_valid_global global_kind.Mutex = true
+is_valid_global global_kind.Cond = true
 
 -- the kind of the parameters of a function
 abbrev pub param_kind : FnKind → VarKind

@@ -11,7 +11,7 @@ use Rattle.c_prog.specs.declared.global.Global as global_struct
 use Rattle.c_prog.specs.declared.global.GlobalKind.{GlobalKind}
 use Rattle.c_prog.specs.declared.global.GlobalKind.TheVariants as global_kind
 use Rattle.c_prog.specs.declared.tree.Tree.{Tree}
-use Rattle.c_prog.specs.Valid.Scope.{VarKind, int, int_array, thread, thread_array, mutex, Scope, is_hidden, local_here}
+use Rattle.c_prog.specs.Valid.Scope.{VarKind, int, int_array, thread, thread_array, mutex, cond, Scope, is_hidden, local_here}
 
 -- A function as the rest of the file sees it: its name, what it gives back, and how many parameters it has.
 pub record Signature : Type 0 where
@@ -39,6 +39,7 @@ global_var_kind (global_kind.IntArray count) = int_array
 global_var_kind global_kind.Thread = thread
 global_var_kind (global_kind.ThreadArray count) = thread_array
 global_var_kind global_kind.Mutex = mutex
+global_var_kind global_kind.Cond = cond
 
 -- the kind of a local
 abbrev pub local_var_kind : LocalKind → VarKind

@@ -10,6 +10,7 @@ pub data VarKind : Type 0 where
   thread : VarKind
   thread_array : VarKind
   mutex : VarKind
+  cond : VarKind
   argument : VarKind
 
 -- A parameter or a local of a function. They are numbered in the order of the text.

@@ -8,7 +8,7 @@ use Rattle.c_raw.specs.Simples.{create_view}
 use Rattle.c_cursor.proofs.Exits.{stops-by}
 use Rattle.c_raw.specs.declared.simple.Create.{Create}
 use Rattle.c_expr.specs.Calls.{create_from}
-use Rattle.c_expr.proofs.CallSteps.{library-create, library-join, library-lock, library-unlock, library-print, library-scan}
+use Rattle.c_expr.proofs.CallSteps.{library-create, library-join, library-lock, library-unlock, library-print, library-scan, library-condition}
 use Rattle.c_expr.proofs.headers.library.Goals as goal
 
 pub returns-in_err-create : goal.returns-in_err-create
@@ -60,6 +60,17 @@ returns-then-is_word-5 c =
     let print : begins (is_word w.Printf) here ≡ true = cc in
     rw (library-print 200 c.args.depth here no_create no_join no_lock no_unlock print) c.print.ensures
 
+pub returns-then-is_word-6 : goal.returns-then-is_word-6
+returns-then-is_word-6 c =
+    let here = drop c.args.at c.args.cursor.now.tokens in
+    let no_create : begins (is_word w.Create) here ≡ false = cc in
+    let no_join : begins (is_word w.Join) here ≡ false = cc in
+    let no_lock : begins (is_word w.Lock) here ≡ false = cc in
+    let no_unlock : begins (is_word w.Unlock) here ≡ false = cc in
+    let no_print : begins (is_word w.Printf) here ≡ false = cc in
+    let scan : begins (is_word w.Scanf) here ≡ true = cc in
+    rw (library-scan 200 c.args.depth here no_create no_join no_lock no_unlock no_print scan) c.scan.ensures
+
 pub returns : goal.returns
 returns c =
     let here = drop c.args.at c.args.cursor.now.tokens in
@@ -68,4 +79,5 @@ returns c =
     let no_lock : begins (is_word w.Lock) here ≡ false = cc in
     let no_unlock : begins (is_word w.Unlock) here ≡ false = cc in
     let no_print : begins (is_word w.Printf) here ≡ false = cc in
-    rw (library-scan 200 c.args.depth here no_create no_join no_lock no_unlock no_print) c.scan.ensures
+    let no_scan : begins (is_word w.Scanf) here ≡ false = cc in
+    rw (library-condition 200 c.args.depth here no_create no_join no_lock no_unlock no_print no_scan) c.condition.ensures

@@ -1,4 +1,4 @@
-use Rattle.std.proofs.Common.{◌≡◌, ◌<◌, ◌^◌, ◌++◌, true, map, drop, length}
+use Rattle.std.proofs.Common.{◌≡◌, ◌^◌, ◌++◌, true, map, drop, length}
 use Rattle.std.specs.Prelude.{nat_lt}
 use Rattle.std.specs.List.{list_all}
 use Rattle.c_prog.specs.Accesses.{touches}

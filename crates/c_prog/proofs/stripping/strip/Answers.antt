@@ -4,4 +4,4 @@ use Rattle.c_prog.proofs.ValidStrip.{valid-strip}
 use Rattle.c_prog.proofs.stripping.strip.Goals as goal
 
 pub of-requires : goal.of-requires
-of-requires c = record { valid = subst IsValid (sym c.in_ok-tree.ensures) (valid-strip c.tree.result.now c.tree.ensures.valid) }
+of-requires c = record { valid = subst IsValid (sym c.in_ok-tree.ensures) (valid-strip c.args.marks c.tree.result.now c.tree.ensures.valid) }

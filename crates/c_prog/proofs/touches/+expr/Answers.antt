@@ -2,7 +2,7 @@ use Rattle.std.proofs.Common.{rules, ◌≡◌, ◌++◌, not, ◌&&◌, sym, �
 use Rattle.std.proofs.lemmas.Result.{on_ok_weaker}
 use Rattle.c_prog.specs.Accesses.{expr_accesses, marked, stops_early}
 use Rattle.c_prog.proofs.Equations.{accesses-Binary}
-use Rattle.c_prog.proofs.Marks.{marked-both}
+use Rattle.c_prog.proofs.Certain.{marked-both}
 use Rattle.c_prog.proofs.touches.+expr.Goals as goal
 
 pub add_expr-returns-in_ok-add_expr-in-Binary : goal.add_expr-returns-in_ok-add_expr-in-Binary

@@ -4,4 +4,4 @@ use Rattle.c_prog.proofs.ValidStrip.{strip-touches}
 use Rattle.prog_laws.proofs.laws.stripping_keeps_the_accesses.Goals as goal
 
 pub returns : goal.returns
-returns c = λ t node. ap (numbered node 0) (strip-touches t node.number)
+returns c = λ m t node. ap (numbered node 0) (strip-touches m t node.number)

@@ -10,7 +10,7 @@ returns-then-number-self c =
 
 pub returns : goal.returns
 returns c =
-    let place = number-place _ _ c.args.number c.if-number-self.false c.self.invariant in
+    let place = number-place _ _ c.args.number c.if-number-self.false c.self.invariant.enough in
     let read = get_or_read _ _ _ place c.index-word.ensures 0 in
     bit-test _ c.args.number _ read
     ∙ sym (in-numbers _ _ c.args.number c.if-number-self.false)

@@ -1,0 +1,28 @@
+use Rattle.std.proofs.Common.{◌≡◌, ◌<◌, true, false, drop, map, arith, rules}
+use Rattle.std.proofs.lemmas.Result.{err_from_is_err_and}
+use Rattle.std.proofs.lemmas.List.{map_push}
+use Rattle.c_grammar.specs.Reader.{begins, size}
+use Rattle.c_grammar.specs.declared.sign.Sign.TheVariants as s
+use Rattle.c_grammar.specs.Read.{is_sign}
+use Rattle.c_parse.specs.Globals.{next_cond_view, next_cond}
+use Rattle.c_stmt.proofs.Loop as loop
+use Rattle.c_stmt.proofs.Stop.{stops_by}
+use Rattle.c_parse.proofs.globals.more_conds_of.Goals as goal
+
+pub returns-then-not-is_sign : goal.returns-then-not-is_sign
+returns-then-not-is_sign c =
+    let none : begins (is_sign s.Comma) (drop c.conds.place c.args.cursor.now.tokens) ≡ false = first_of (cc, search rules) in
+    loop.ends (is_sign s.Comma) next_cond (drop c.args.at c.args.cursor.now.tokens) (map next_cond_view c.conds.more) c.conds.counter (drop c.conds.place c.args.cursor.now.tokens) c.conds.invariant none
+
+pub returns-in_err-next : goal.returns-in_err-next
+returns-in_err-next c =
+    let p = err_from_is_err_and c.from_residual.result c.from_residual.ensures.1 in
+    let room : c.conds.counter < size (drop c.args.at c.args.cursor.now.tokens) = omega (arith, c.left-end.ensures, c.conds-test.true) in
+    let more : begins (is_sign s.Comma) (drop c.conds.place c.args.cursor.now.tokens) ≡ true = first_of (cc, search rules) in
+    rw (p.1, p.2) (stops_by c.args.cursor.now.tokens (next_cond (drop c.conds.place c.args.cursor.now.tokens)) _ c.in_err-next.field-0.0 (loop.stops (is_sign s.Comma) next_cond (drop c.args.at c.args.cursor.now.tokens) (map next_cond_view c.conds.more) c.conds.counter (drop c.conds.place c.args.cursor.now.tokens) c.conds.invariant room more) c.in_err-next.ensures)
+
+pub conds-preserved : goal.conds-preserved
+conds-preserved c =
+    let room : c.conds.counter < size (drop c.args.at c.args.cursor.now.tokens) = omega (arith, c.left-end.ensures, c.conds-test.true) in
+    let more : begins (is_sign s.Comma) (drop c.conds.place c.args.cursor.now.tokens) ≡ true = first_of (cc, search rules) in
+    rw (c.in_ok-push.ensures.pushed, map_push next_cond_view c.conds.more c.in_ok-next.next) (loop.turns (is_sign s.Comma) next_cond (drop c.args.at c.args.cursor.now.tokens) (map next_cond_view c.conds.more) c.conds.counter (drop c.conds.place c.args.cursor.now.tokens) c.conds.invariant room more _ _ c.in_ok-next.ensures)
