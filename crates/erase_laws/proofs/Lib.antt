@@ -1,0 +1,9 @@
+pub mod Plain
+pub mod Strips
+pub mod Goes
+pub mod Erased
+pub mod TreeFolds
+pub mod TreeStrip
+pub mod TreeMarked
+pub mod SameLayout
+pub mod Adds

@@ -1,0 +1,4 @@
+pub mod Marked
+pub mod Follows
+pub mod Runs
+pub mod Repairs
