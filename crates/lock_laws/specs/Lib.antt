@@ -1,0 +1,4 @@
+pub mod Guard
+pub mod Coverage
+pub mod Inside
+pub mod Holds
