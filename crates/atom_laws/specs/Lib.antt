@@ -1,0 +1,2 @@
+pub mod NextVisit
+pub mod Violations
