@@ -1,0 +1,10 @@
+pub mod Tokens
+pub mod TokenCounts
+pub mod Flags
+pub mod NotPast
+pub mod Ready
+pub mod OrderLaws
+pub mod FlagRuns
+pub mod OrderEnds
+pub mod TokenRuns
+pub mod OrderTries

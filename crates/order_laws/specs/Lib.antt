@@ -1,0 +1,4 @@
+pub mod Tokens
+pub mod OrderRuns
+pub mod OrderEnds
+pub mod TokenRuns
