@@ -1,0 +1,14 @@
+pub mod TreePlaced
+pub mod Bares
+pub mod Edges
+pub mod TreeIsPlaced
+pub mod StripPlaced
+pub mod StripIs
+pub mod Placement
+pub mod OrderOps
+pub mod Comings
+pub mod Creating
+pub mod TreeSignals
+pub mod Starting
+pub mod Uncalled
+pub mod PlacedLaws
