@@ -1,0 +1,4 @@
+pub mod Lift
+pub mod LiftRun
+pub mod Sorted
+pub mod Repeated
