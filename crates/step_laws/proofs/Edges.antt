@@ -23,8 +23,8 @@ use Rattle.step_state.specs.Start.{start}
 use Rattle.c_prog.specs.declared.tree.Tree.{Tree}
 use Rattle.step_tables.specs.TreeCode.{next_of, tree_code}
 use Rattle.step_laws.specs.Edges.{AreOnEdges, OnEdge, Stands, node_if}
-use Rattle.step_laws.proofs.Frames.{AllFrames, AllOf, Framed, GoodStep, Keeps, KeptByRun, ThreadFrames, framed_run}
-use Rattle.step_laws.proofs.Reduced.{reduced_follows}
+use Rattle.frame_laws.proofs.Frames.{AllFrames, AllOf, Framed, GoodStep, Keeps, KeptByRun, ThreadFrames, framed_run}
+use Rattle.frame_laws.proofs.Reduced.{reduced_follows}
 
 some_same : {A : Type 0} (x y : A) → Some x ≡ Some y → x ≡ y
 some_same x y is = cc
@@ -100,7 +100,7 @@ module _ (c : Code) where
     later = λ m t f below h. h;
     op = λ m t f below o rest ev at is good h. op_stands c f.visit f.last o rest (with_next f (item.Op o) rest at h);
     reduced = λ m t f g below r rest at is good h. reduction_stands f g r rest at is h;
-    acted = λ m t f below a rest vs hs ev at good h. acted_stands c f.visit f.last a rest (with_next f (item.Act a) rest at h);
+    acted = λ m t f below a rest vs hs ev at says good h. acted_stands c f.visit f.last a rest (with_next f (item.Act a) rest at h);
     begun = λ m t f below n rest at good h. tt;
     branched = λ m t f below n rest at good h. arrived c _;
     edged = λ m t f below n rest at good h. arrived c (After n);
