@@ -4,7 +4,7 @@ ghost use Rattle.c_raw.specs.Simples.{target_view, more_view, thread_arg_view, c
 ghost use Rattle.c_names.specs.Faults.{noted_all, fault_if};
 ghost use Rattle.c_names.specs.Uses.{use_of, global_number, function_number};
 ghost use Rattle.c_names.specs.Expressions.{exprs_faults, int_target_faults};
-ghost use Rattle.c_names.specs.Simples.{thread_arg_faults, created_faults, mutex_faults, cond_faults, printf_faults, library_faults};
+ghost use Rattle.c_names.specs.Simples.{thread_arg_faults, created_faults, mutex_faults, cond_variable_faults, printf_faults, library_faults};
 ghost use Rattle.c_names.specs.SpelledExpressions.{exprs_of, target_of, thread_arg_of, library_of};
 ghost use Rattle.c_names.specs.LinesExpressions.{exprs_lines, index_lines, target_lines, thread_arg_lines, library_lines};
 ghost use Rattle.c_names.specs.Strings.{has_other, is_scan_text};
@@ -89,7 +89,7 @@ fn resolve_mutex(least: &mut Option<Fault>, names: &Table, scope: &Scope, name: 
 #[tactic(auto, using(c_scope::proofs::Faults::faults))]
 fn resolve_cond(least: &mut Option<Fault>, names: &Table, scope: &Scope, name: &Ident) -> VarId
     ensures built { result.number ≡ global_number (use_of (names_from names.now) scope.now name.now.text) }
-    ensures noted { least.new ≡ noted_all least.old (cond_faults (names_from names.now) scope.now (ident_view name.now)) }
+    ensures noted { least.new ≡ noted_all least.old (cond_variable_faults (names_from names.now) scope.now (ident_view name.now)) }
 {
     let found = use_of(names, scope, name.text.as_slice());
     note_reserved(least, name);
@@ -109,7 +109,7 @@ fn resolve_wait(
     mutex: &Ident,
 ) -> Act
     ensures built { result ≡ Act.Wait (record { number = global_number (use_of (names_from names.now) scope.now cond.now.text) }) (record { number = global_number (use_of (names_from names.now) scope.now mutex.now.text) }) }
-    ensures noted { least.new ≡ noted_all least.old (cond_faults (names_from names.now) scope.now (ident_view cond.now) ++ mutex_faults (names_from names.now) scope.now (ident_view mutex.now)) }
+    ensures noted { least.new ≡ noted_all least.old (cond_variable_faults (names_from names.now) scope.now (ident_view cond.now) ++ mutex_faults (names_from names.now) scope.now (ident_view mutex.now)) }
 {
     let cond = resolve_cond(least, names, scope, cond);
     let mutex = resolve_mutex(least, names, scope, mutex);

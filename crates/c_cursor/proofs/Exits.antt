@@ -1,6 +1,6 @@
 -- The exit by `?`: what stops a part stops the whole at the same token.
 use Rattle.std.proofs.Common.{◌≡◌, List, drop}
-use Rattle.c_grammar.specs.Reader.{Fault, Unexpected, Deep, Out, Stop}
+use Rattle.c_reading.specs.Reader.{Fault, Unexpected, Deep, Out, Stop}
 use Rattle.c_grammar.specs.Token.{Token}
 use Rattle.c_cursor.specs.declared.fault.ReadFault.{ReadFault}
 use Rattle.c_cursor.specs.declared.fault.ReadFault.TheVariants as f

@@ -12,35 +12,36 @@ use Rattle.c_grammar.specs.declared.word.Word.{Word}
 use Rattle.c_grammar.specs.contracts.word.Word as word_row
 use Rattle.c_grammar.specs.declared.sign.Sign.{Sign}
 use Rattle.c_grammar.specs.contracts.sign.Sign as sign_row
-use Rattle.c_grammar.specs.Reader.{Got, Stop, Unexpected, begins}
+use Rattle.c_reading.specs.Reader.{Got, Stop, Unexpected, begins}
 use Rattle.c_grammar.specs.Token.{Kind, IsName, IsNumber, IsQuoted, IsWord, IsOther, IsSign, Token, Numeral}
 use Rattle.c_grammar.specs.Spelling.{words, word_text, word_among, signs, sign_text, sign_among}
-use Rattle.c_grammar.specs.Read.{is_word_kind, is_sign_kind, is_number_kind, is_word, is_sign, is_number, read_word, read_sign, ident_in, numeral_in, text_in, read_numeral}
+use Rattle.c_reading.specs.Read.{is_word_kind, is_sign_kind, is_number_kind, is_word, is_sign, is_number, read_word, read_sign, ident_in, numeral_in, text_in, read_numeral}
 use Rattle.c_cursor.specs.declared.look.Look.TheVariants as look
 use Rattle.c_cursor.specs.declared.cursor.Mark.{Mark}
-use Rattle.c_cursor.specs.Seen.{kind_of, seen, look_of, look_at, number_in, number_at, spot_at}
+use Rattle.c_grammar.specs.Lexical.{kind_read, token_read}
+use Rattle.c_cursor.specs.Seen.{bare_kind, passes, look_of, look_at, number_in, number_at, spot_at}
 use Rattle.c_cursor.specs.Marks.{mark_of, marked}
 use Rattle.c_cursor.proofs.Places.{drop-here, drop-behind, begins-within}
 use Rattle.c_cursor.proofs.Same.{same_word, same_sign}
 
-pub look-mark : (ts : List lex.Token) (at : ℕ) (m : Mark) → slice_get (marked ts) at ≡ Some m → Some m.look ≡ look_at (drop at (map seen ts))
+pub look-mark : (ts : List lex.Token) (at : ℕ) (m : Mark) → slice_get (marked ts) at ≡ Some m → Some m.look ≡ look_at (drop at (map token_read ts))
 look-mark [] at m e = absurd cc
 look-mark (t ∷ ts) zero m e = let h : mark_of t ≡ m = cc in ap (λ (x : Mark). Some x.look) (sym h)
 look-mark (t ∷ ts) (suc at) m e = look-mark ts at m e
 
-pub spot-mark : (end : Spot) (ts : List lex.Token) (at : ℕ) (m : Mark) → slice_get (marked ts) at ≡ Some m → m.spot ≡ spot_at end (drop at (map seen ts))
+pub spot-mark : (end : Spot) (ts : List lex.Token) (at : ℕ) (m : Mark) → slice_get (marked ts) at ≡ Some m → m.spot ≡ spot_at end (drop at (map token_read ts))
 spot-mark end [] at m e = absurd cc
 spot-mark end (t ∷ ts) zero m e = let h : mark_of t ≡ m = cc in ap (λ (x : Mark). x.spot) (sym h)
 spot-mark end (t ∷ ts) (suc at) m e = spot-mark end ts at m e
 
 pub next-mark : (ts : List lex.Token) (at : ℕ) (m : Mark) → slice_get (marked ts) at ≡ Some m
-    → (t : Token) × (drop at (map seen ts) ≡ t ∷ drop (at + 1) (map seen ts)) × (look_of t.kind ≡ m.look) × (t.spot ≡ m.spot)
+    → (t : Token) × (drop at (map token_read ts) ≡ t ∷ drop (at + 1) (map token_read ts)) × (look_of t.kind ≡ m.look) × (t.spot ≡ m.spot)
 next-mark ts at m e = rw (add-one at) (by ts at e)
   where
     by : (ts : List lex.Token) (at : ℕ) → slice_get (marked ts) at ≡ Some m
-        → (t : Token) × (drop at (map seen ts) ≡ t ∷ drop (suc at) (map seen ts)) × (look_of t.kind ≡ m.look) × (t.spot ≡ m.spot)
+        → (t : Token) × (drop at (map token_read ts) ≡ t ∷ drop (suc at) (map token_read ts)) × (look_of t.kind ≡ m.look) × (t.spot ≡ m.spot)
     by [] at e = absurd cc
-    by (t ∷ ts) zero e = let h : mark_of t ≡ m = cc in (seen t, refl, ap (λ (x : Mark). x.look) h, ap (λ (x : Mark). x.spot) h)
+    by (t ∷ ts) zero e = let h : mark_of t ≡ m = cc in (token_read t, refl, ap (λ (x : Mark). x.look) h, ap (λ (x : Mark). x.spot) h)
     by (t ∷ ts) (suc at) e = by ts at e
 
 -- ---- the token at a place
@@ -95,8 +96,8 @@ sign-is ts found x e = same_sign found x ∙ sign_begins ts found x e
 -- ---- what a token carries
 
 -- a token of the text, as the first one of those from its place on
-pub seen-here : (all : List lex.Token) (at : ℕ) (t : lex.Token) → slice_get all at ≡ Some t → drop at (map seen all) ≡ seen t ∷ drop (at + 1) (map seen all)
-seen-here all at t e = drop-here (map seen all) at (seen t) (slice_get-map seen all at ∙ ap (λ (x : Option lex.Token). option_map seen x) e)
+pub seen-here : (all : List lex.Token) (at : ℕ) (t : lex.Token) → slice_get all at ≡ Some t → drop at (map token_read all) ≡ token_read t ∷ drop (at + 1) (map token_read all)
+seen-here all at t e = drop-here (map token_read all) at (token_read t) (slice_get-map token_read all at ∙ ap (λ (x : Option lex.Token). option_map token_read x) e)
 
 other_if : {A : Type 0} (v : Bool) (by : Kind → Option A) (k more : Kind) → by k ≡ None → by more ≡ None → by (cond v k more) ≡ None
 other_if true by k more h g = h
@@ -110,14 +111,14 @@ other_sign : {A : Type 0} (by : Kind → Option A) → ((x : Sign) → by (IsSig
 other_sign by h k [] text = k text
 other_sign by h k (x ∷ all) text = other_if (bytes_eq text (sign_text x)) by (IsSign x) (sign_among all text) (h x) (other_sign by h k all text)
 
-pub no-ident : (k : lexed.Kind) (at : Spot) → ((text : List ℕ) → k ≡ kind.Name text → ⊥) → ident_in (kind_of k) at ≡ None
+pub no-ident : (k : lexed.Kind) (at : Spot) → ((text : List ℕ) → k ≡ kind.Name text → ⊥) → ident_in (kind_read k) at ≡ None
 no-ident (kind.Name text) at h = absurd (h text refl)
 no-ident (kind.Word text) at h = other_word (λ k. ident_in k at) (λ w. refl) (λ w. refl) words text
 no-ident (kind.Number n) at h = refl
 no-ident (kind.Quoted text) at h = refl
 no-ident (kind.Sign text) at h = other_sign (λ k. ident_in k at) (λ w. refl) (λ w. refl) signs text
 
-pub no-text : (k : lexed.Kind) (at : Spot) → ((text : List ℕ) → k ≡ kind.Quoted text → ⊥) → text_in (kind_of k) at ≡ None
+pub no-text : (k : lexed.Kind) (at : Spot) → ((text : List ℕ) → k ≡ kind.Quoted text → ⊥) → text_in (kind_read k) at ≡ None
 no-text (kind.Name text) at h = refl
 no-text (kind.Word text) at h = other_word (λ k. text_in k at) (λ w. refl) (λ w. refl) words text
 no-text (kind.Number n) at h = refl
@@ -167,3 +168,8 @@ number_begins (t ∷ ts) n e = by t.kind e
 
 pub number-within : (ts : List Token) (at : ℕ) (n : ℤ) → number_at (drop at ts) ≡ Some n → at < length ts
 number-within ts at n e = begins-within is_number ts at (number_begins (drop at ts) n e)
+
+-- a test that looks at no bytes says of a token what it says of what the token is
+pub passes-begins : (test : Kind → Bool) → ((k : Kind) → test (bare_kind (look_of k)) ≡ test k) → (ts : List Token) → passes test (look_at ts) ≡ begins (λ t. test t.kind) ts
+passes-begins test same [] = refl
+passes-begins test same (t ∷ ts) = same t.kind

@@ -1,7 +1,7 @@
 -- Loops that read items while one begins: the items so far, and those that are still read.
 use Rattle.std.proofs.Common.{◌≡◌, ℕ, zero, suc, ◌+◌, ◌-◌, ◌<◌, ◌≤◌, Bool, true, false, List, [], ◌∷◌, ◌++◌, refl, sym, ap, ◌∙◌, append_assoc, inl, arith}
 use Rattle.std.proofs.lemmas.List.{append-nil}
-use Rattle.c_grammar.specs.Reader.{Fault, Out, Got, Stop, next, map_out, glue, begins, size, many_by, many}
+use Rattle.c_reading.specs.Reader.{Fault, Out, Got, Stop, next, map_out, glue, begins, size, many_by, many}
 
 -- the items before what is read
 abbrev pub with_front : {T A : Type 0} → List A → Out T (List A) → Out T (List A)

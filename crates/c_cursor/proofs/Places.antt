@@ -1,6 +1,6 @@
 -- A token at a place, and the tokens from that place on.
 use Rattle.std.proofs.Common.{◌≡◌, ℕ, zero, suc, ◌+◌, ◌-◌, ◌<◌, ◌≤◌, Bool, true, List, [], ◌∷◌, ◌++◌, length, take, drop, map, Some, refl, ap, ◌∙◌, arith, add-one, slice_get}
-use Rattle.c_grammar.specs.Reader.{begins, size}
+use Rattle.c_reading.specs.Reader.{begins, size}
 
 drop-next : {X : Type 0} (xs : List X) (at : ℕ) (x : X) → slice_get xs at ≡ Some x → drop at xs ≡ x ∷ drop (suc at) xs
 drop-next [] at x e = absurd cc

@@ -7,8 +7,8 @@ use Rattle.c_grammar.specs.contracts.word.Word as word_row
 use Rattle.c_grammar.specs.declared.sign.Sign.{Sign}
 use Rattle.c_grammar.specs.contracts.sign.Sign as sign_row
 use Rattle.c_grammar.specs.Token.{IsWord, IsSign}
-use Rattle.c_grammar.specs.Read.{word_code, sign_code, is_word_kind, is_sign_kind}
-use Rattle.c_grammar.proofs.Token.{only_word, only_sign}
+use Rattle.c_reading.specs.Read.{word_code, sign_code, is_word_kind, is_sign_kind}
+use Rattle.c_reading.proofs.Token.{only_word, only_sign}
 
 pub same_word : (found x : Word) → sameb word_row.the_type found x ≡ is_word_kind x (IsWord found)
 same_word found x = by (sameb word_row.the_type found x) refl

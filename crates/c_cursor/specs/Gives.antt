@@ -1,6 +1,6 @@
 -- What a reader in code answers, in the terms of the grammar's readers.
 use Rattle.std.specs.Prelude.{◌≡◌, ℕ, List, drop, Result, Ok, Err}
-use Rattle.c_grammar.specs.Reader.{Unexpected, Deep, Out, Got, Stop}
+use Rattle.c_reading.specs.Reader.{Unexpected, Deep, Out, Got, Stop}
 use Rattle.c_grammar.specs.Token.{Token}
 use Rattle.c_cursor.specs.declared.fault.ReadFault.{ReadFault}
 use Rattle.c_cursor.specs.declared.fault.ReadFault.TheVariants as f

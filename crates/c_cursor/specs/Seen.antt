@@ -1,25 +1,10 @@
 -- The tokens of a text as the grammar speaks of them.
-use Rattle.std.specs.Prelude.{◌≡◌, ℕ, ℤ, drop, List, [], ◌∷◌, Option, Some, None}
+use Rattle.std.specs.Prelude.{◌≡◌, ℕ, ℤ, Bool, false, drop, List, [], ◌∷◌, Option, Some, None}
 use Rattle.cfix_base.specs.declared.Spot.{Spot}
-use Rattle.c_lex.specs.declared.token.Kind.{Kind}
-use Rattle.c_lex.specs.declared.token.Kind.TheVariants as k
-use Rattle.c_lex.specs.declared.token.Token as lex
 use Rattle.c_grammar.specs.Token as g
 use Rattle.c_grammar.specs.Token.{Token}
-use Rattle.c_grammar.specs.Spelling.{word_kind, sign_kind}
 use Rattle.c_cursor.specs.declared.look.Look.{Look}
 use Rattle.c_cursor.specs.declared.look.Look.TheVariants as look
-
-abbrev pub kind_of : Kind → g.Kind
-kind_of (k.Name text) = g.IsName text
-kind_of (k.Word text) = word_kind text
-kind_of (k.Number n) = g.IsNumber n
-kind_of (k.Quoted bytes) = g.IsQuoted bytes
-kind_of (k.Sign text) = sign_kind text
-
--- the token as the grammar speaks of it
-abbrev pub seen : lex.Token → Token
-seen t = record { kind = kind_of t.kind; spot = t.spot }
 
 -- tokens, and where the text ends
 pub record Source : Type 0 where
@@ -34,6 +19,20 @@ look_of (g.IsQuoted bytes) = look.Quoted
 look_of (g.IsWord w) = look.Word w
 look_of (g.IsOther text) = look.Other
 look_of (g.IsSign s) = look.Sign s
+
+-- a kind that looks so, without bytes
+abbrev pub bare_kind : Look → g.Kind
+bare_kind look.Name = g.IsName []
+bare_kind (look.Number n) = g.IsNumber n
+bare_kind look.Quoted = g.IsQuoted []
+bare_kind (look.Word w) = g.IsWord w
+bare_kind look.Other = g.IsOther []
+bare_kind (look.Sign s) = g.IsSign s
+
+-- whether there is a token whose kind passes a test that looks at no bytes
+abbrev pub passes : (g.Kind → Bool) → Option Look → Bool
+passes test None = false
+passes test (Some l) = test (bare_kind l)
 
 -- what the first token is, if there is one
 abbrev pub look_at : List Token → Option Look

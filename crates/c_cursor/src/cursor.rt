@@ -1,9 +1,10 @@
 ghost use Rattle.std.specs.Prelude.{◌≡◌, ◌≤◌, ◌<◌, ◌+◌, ◌++◌, ◌∷◌, [], length, drop, map, IfOk, OnOk};
-ghost use Rattle.c_grammar.specs.Reader.{begins, one_of, size};
-ghost use Rattle.c_grammar.specs.Read.{is_word, is_sign, is_name, is_number, read_word, read_sign, read_ident, read_numeral, read_text};
+ghost use Rattle.c_reading.specs.Reader.{begins, one_of, size};
+ghost use Rattle.c_reading.specs.Read.{is_word, is_sign, is_name, is_number, read_word, read_sign, read_ident, read_numeral, read_text};
 ghost use Rattle.c_raw.specs.Tokens.{ident_view, numeral_view, text_view, kind_view, token_view};
 ghost use Rattle.c_grammar.specs.Spelling.{word_kind, sign_kind};
-ghost use Rattle.c_cursor.specs.Seen.{kind_of, seen, look_of, look_at, number_at, spot_at, Next};
+ghost use Rattle.c_grammar.specs.Lexical.{kind_read, token_read};
+ghost use Rattle.c_cursor.specs.Seen.{look_of, look_at, number_at, spot_at, Next};
 ghost use Rattle.c_cursor.specs.Marks.{marked};
 ghost use Rattle.c_cursor.specs.Gives.{Gives};
 
@@ -32,20 +33,21 @@ pub struct Cursor<'a> {
 
 impl<'a> Model for Cursor<'a> {
     ghost use Rattle.std.specs.Prelude.{◌≡◌, ◌≤◌, length, map};
-    ghost use Rattle.c_cursor.specs.Seen.{Source, seen};
+    ghost use Rattle.c_grammar.specs.Lexical.{token_read};
+    ghost use Rattle.c_cursor.specs.Seen.{Source};
     ghost use Rattle.c_cursor.specs.Marks.{marked};
 
     ghost Value = { Source };
 
     ghost invariant = { λ c. (c.marks ≡ marked c.tokens.now.tokens) × (length c.tokens.now.tokens ≤ 1000000) };
 
-    ghost view = { λ c. record { tokens = map seen c.tokens.now.tokens; end = c.tokens.now.end } };
+    ghost view = { λ c. record { tokens = map token_read c.tokens.now.tokens; end = c.tokens.now.end } };
 }
 
 impl<'a> Cursor<'a> {
     /// The cursor over these tokens.
     pub fn new(alloc: Global, tokens: &'a Tokens) -> Result<Cursor<'a>, NoMemory>
-        ensures tokens { IfOk result (λ c. c.tokens ≡ map seen tokens.now.tokens) }
+        ensures tokens { IfOk result (λ c. c.tokens ≡ map token_read tokens.now.tokens) }
         ensures end { IfOk result (λ c. c.end ≡ tokens.now.end) }
     {
         let mut marks = List::new(alloc);
@@ -262,7 +264,7 @@ fn sign_copy(alloc: Global, text: &List<u8>, look: Look) -> Result<CopiedKind, N
 }
 
 fn kind_copy(alloc: Global, kind: &Kind) -> Result<CopiedKind, NoMemory>
-    ensures { IfOk result (λ copy. kind_view copy ≡ kind_of kind.now) }
+    ensures { IfOk result (λ copy. kind_view copy ≡ kind_read kind.now) }
 {
     match kind {
         Kind::Name(text) => Ok(CopiedKind::Name(copied(alloc, text)?)),

@@ -1,6 +1,7 @@
 ghost use Rattle.std.specs.Prelude.{◌≡◌};
 ghost use Rattle.c_grammar.specs.Spelling.{word_text, sign_text, word_among, sign_among};
-ghost use Rattle.c_cursor.specs.Seen.{look_of, kind_of};
+ghost use Rattle.c_grammar.specs.Lexical.{kind_read};
+ghost use Rattle.c_cursor.specs.Seen.{look_of};
 
 use c_grammar::{Sign, Word};
 use c_lex::Kind;
@@ -195,7 +196,7 @@ fn sign_among(signs: &[Sign], text: &[u8]) -> Look
 
 /// What a token of this kind is.
 pub(crate) fn kind_look(kind: &Kind) -> Look
-    ensures { result ≡ look_of (kind_of kind.now) }
+    ensures { result ≡ look_of (kind_read kind.now) }
 {
     match kind {
         Kind::Name(_) => Look::Name,

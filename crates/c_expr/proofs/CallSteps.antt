@@ -3,13 +3,13 @@ use Rattle.std.proofs.Common.{◌≡◌, ◌≢◌, ℕ, zero, suc, ◌-◌, Boo
 use Rattle.cfix_base.specs.declared.Spot.{Spot}
 use Rattle.c_grammar.specs.declared.word.Word.TheVariants as w
 use Rattle.c_grammar.specs.declared.sign.Sign.TheVariants as s
-use Rattle.c_grammar.specs.Reader.{Unexpected, Out, Got, Stop, next, seq, map_out, begins, either}
+use Rattle.c_reading.specs.Reader.{Unexpected, Out, Got, Stop, next, seq, map_out, begins, either}
 use Rattle.c_grammar.specs.Token.{Token, Numeral}
 use Rattle.c_grammar.specs.Expr.{Prefix, Long, Expr, Number}
 use Rattle.c_grammar.specs.Simple.{NullArg, CastArg}
-use Rattle.c_grammar.specs.Read.{is_word, is_name, is_number, read_word, read_sign, read_numeral}
-use Rattle.c_grammar.specs.ReadExpr.{is_prefix, CastParts, NameParts, name_from, paren_from, inside_with, unary_at, expr_at, prefix_at}
-use Rattle.c_grammar.specs.ReadSimple.{is_paren, CastTail, cast_from, cast_tail_at, cast_unary_at, CastArgParts, thread_arg_from, cast_arg_at, thread_arg_at, library_from, create_at, join_at, lock_tail, print_at, scan_at, wait_at, library_at, CreateParts, JoinParts, LockParts, PrintParts, ScanParts, WaitParts, WakeParts}
+use Rattle.c_reading.specs.Read.{is_word, is_name, is_number, read_word, read_sign, read_numeral}
+use Rattle.c_reading.specs.ReadExpr.{is_prefix, CastParts, NameParts, name_from, paren_from, inside_with, unary_at, expr_at, prefix_at}
+use Rattle.c_reading.specs.ReadSimple.{is_paren, CastTail, cast_from, cast_tail_at, cast_unary_at, CastArgParts, thread_arg_from, cast_arg_at, thread_arg_at, library_from, create_at, join_at, lock_tail, print_at, scan_at, wait_at, library_at, CreateParts, JoinParts, LockParts, PrintParts, ScanParts, WaitParts, WakeParts}
 use Rattle.c_expr.specs.Parts.{unary_from, inside_at}
 use Rattle.c_expr.specs.Calls.{cast_in, arg_from, create_from, join_from, lock_from, unlock_from, print_from, scan_from, wait_from, signal_from, broadcast_from, condition_at}
 use Rattle.c_expr.proofs.OneKind.{paren-prefix, paren-number, paren-name}

@@ -1,10 +1,10 @@
 -- Binary operators and their operands: each step of the loop.
 use Rattle.std.proofs.Common.{◌≡◌, ◌≢◌, ℕ, zero, suc, ltb, ◌+◌, ◌-◌, ◌≤◌, Bool, true, false, List, refl, ap, ◌∙◌, arith, inl, inr, cond}
 use Rattle.cfix_base.specs.declared.Spot.{Spot}
-use Rattle.c_grammar.specs.Reader.{Fault, Deep, Out, Got, Stop, next, map_out, one_of, begins, either, glue, chain}
+use Rattle.c_reading.specs.Reader.{Fault, Deep, Out, Got, Stop, next, map_out, one_of, begins, either, glue, chain}
 use Rattle.c_grammar.specs.Token.{Token}
 use Rattle.c_grammar.specs.Expr.{Binary, level, Expr, Number, Name, Index, Paren, Cast, Unary, Operation}
-use Rattle.c_grammar.specs.ReadExpr.{is_binary, binary_of, operators, Link, append, grow, group, link_with, links_with, unary_at, expr_at}
+use Rattle.c_reading.specs.ReadExpr.{is_binary, binary_of, operators, Link, append, grow, group, link_with, links_with, unary_at, expr_at}
 use Rattle.c_expr.specs.Parts.{chain_at}
 use Rattle.c_expr.proofs.Outs.{next-same}
 

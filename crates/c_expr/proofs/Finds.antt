@@ -4,11 +4,11 @@ use Rattle.std.proofs.Common.{◌≡◌, ℕ, List, [], ◌∷◌, Option, Some,
 use Rattle.cfix_base.specs.declared.Spot.{Spot}
 use Rattle.c_grammar.specs.declared.word.Word.TheVariants as w
 use Rattle.c_grammar.specs.declared.sign.Sign.TheVariants as s
-use Rattle.c_grammar.specs.Reader.{begins}
+use Rattle.c_reading.specs.Reader.{begins}
 use Rattle.c_grammar.specs.Token.{Kind, IsWord, IsSign, Token}
-use Rattle.c_grammar.specs.ReadExpr.{prefix_in, binary_in, begins_expr_kind, begins_expr}
-use Rattle.c_grammar.specs.ReadSimple.{change_in, step_in}
-use Rattle.c_grammar.specs.ReadOp.{verb_in}
+use Rattle.c_reading.specs.ReadExpr.{prefix_in, binary_in, begins_expr_kind, begins_expr}
+use Rattle.c_reading.specs.ReadSimple.{change_in, step_in}
+use Rattle.c_reading.specs.ReadOp.{verb_in}
 use Rattle.c_cursor.specs.declared.look.Look.{Look}
 use Rattle.c_cursor.specs.Seen.{look_of, look_at, Next}
 use Rattle.c_raw.specs.Exprs.{prefix_view, binary_view}

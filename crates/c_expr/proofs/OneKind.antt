@@ -1,10 +1,10 @@
 -- A token is of one kind only.
 use Rattle.std.proofs.Common.{◌≡◌, true, false, List, [], ◌∷◌, refl}
 use Rattle.c_grammar.specs.declared.sign.Sign.TheVariants as s
-use Rattle.c_grammar.specs.Reader.{begins}
+use Rattle.c_reading.specs.Reader.{begins}
 use Rattle.c_grammar.specs.Token.{Kind, IsName, IsSign, Token}
-use Rattle.c_grammar.specs.Read.{is_name_kind, is_number_kind, is_sign_kind, is_sign, is_name, is_number}
-use Rattle.c_grammar.specs.ReadExpr.{is_some, prefix_in, is_prefix}
+use Rattle.c_reading.specs.Read.{is_name_kind, is_number_kind, is_sign_kind, is_sign, is_name, is_number}
+use Rattle.c_reading.specs.ReadExpr.{is_some, prefix_in, is_prefix}
 use Rattle.cfix_base.specs.declared.Spot.{Spot}
 
 name_no_prefix : (k : Kind) (at : Spot) → is_name_kind k ≡ true → is_some (prefix_in k at) ≡ false

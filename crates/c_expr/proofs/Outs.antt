@@ -1,6 +1,6 @@
 -- What a reader answers, mapped twice.
 use Rattle.std.proofs.Common.{◌≡◌, List, refl}
-use Rattle.c_grammar.specs.Reader.{Out, Got, Stop, next, map_out}
+use Rattle.c_reading.specs.Reader.{Out, Got, Stop, next, map_out}
 
 pub fuse : {T A B C : Type 0} (f : B → C) (g : A → B) (o : Out T A) → map_out f (map_out g o) ≡ map_out (λ a. f (g a)) o
 fuse f g (Got a r) = refl

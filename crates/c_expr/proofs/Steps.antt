@@ -3,12 +3,12 @@ use Rattle.std.proofs.Common.{◌≡◌, ◌≢◌, ℕ, zero, suc, ◌-◌, tru
 use Rattle.cfix_base.specs.declared.Spot.{Spot}
 use Rattle.c_grammar.specs.declared.sign.Sign.{Sign}
 use Rattle.c_grammar.specs.declared.sign.Sign.TheVariants as s
-use Rattle.c_grammar.specs.Reader.{Fault, Unexpected, Deep, Out, Got, Stop, next, one_of, seq, map_out, begins, maybe_read}
+use Rattle.c_reading.specs.Reader.{Fault, Unexpected, Deep, Out, Got, Stop, next, one_of, seq, map_out, begins, maybe_read}
 use Rattle.c_grammar.specs.Token.{Token, Numeral}
 use Rattle.c_grammar.specs.Expr.{Prefix, Expr, Number, Unary}
-use Rattle.c_grammar.specs.Read.{is_sign, is_name, is_number, read_sign, read_numeral}
-use Rattle.c_grammar.specs.ReadExpr.{CastParts, NameParts, Parenthesised, is_prefix, prefix_of, operand_from, name_from, paren_from, unary_with, inside_with, unary_at, expr_at, prefix_at, index_at, paren_at}
-use Rattle.c_grammar.specs.ReadSimple.{is_bracket, is_paren}
+use Rattle.c_reading.specs.Read.{is_sign, is_name, is_number, read_sign, read_numeral}
+use Rattle.c_reading.specs.ReadExpr.{CastParts, NameParts, Parenthesised, is_prefix, prefix_of, operand_from, name_from, paren_from, unary_with, inside_with, unary_at, expr_at, prefix_at, index_at, paren_at}
+use Rattle.c_reading.specs.ReadSimple.{is_bracket, is_paren}
 use Rattle.c_expr.specs.Parts.{prefixed_at, named_at, parenthesised_at, inside_at}
 use Rattle.c_expr.proofs.Outs.{fuse}
 

@@ -2,13 +2,13 @@
 use Rattle.std.proofs.Common.{◌≡◌, ℕ, ◌-◌, Bool, true, false, List, Option, refl, sym, ap, ◌∙◌, inl, inr, ◌⊎◌}
 use Rattle.cfix_base.specs.declared.Spot.{Spot}
 use Rattle.c_grammar.specs.declared.sign.Sign.TheVariants as s
-use Rattle.c_grammar.specs.Reader.{Fault, Unexpected, Out, Got, Stop, next, one_of, seq, map_out, either, begins, maybe_read}
+use Rattle.c_reading.specs.Reader.{Fault, Unexpected, Out, Got, Stop, next, one_of, seq, map_out, either, begins, maybe_read}
 use Rattle.c_grammar.specs.Token.{Token, Ident, Numeral}
 use Rattle.c_grammar.specs.Expr.{Prefix, Expr, Number}
 use Rattle.c_grammar.specs.Simple.{Place, Target, TargetOf, Call, Value, Computed, Called, Change, Step, SteppedBefore, PlainPart, OnlyCall, Library, LibraryPart}
-use Rattle.c_grammar.specs.Read.{is_sign, is_name, is_number, read_ident, read_numeral}
-use Rattle.c_grammar.specs.ReadExpr.{is_prefix, operators, Link, grow, links_with, Parenthesised, name_from, paren_from, unary_at, expr_at, prefix_at, index_at, paren_at}
-use Rattle.c_grammar.specs.ReadSimple.{is_bracket, is_paren, CallTail, call_from, call_tail_at, target_at, head_from, value_head_at, value_links_at, value_from, value_at, Assigns, assigns_with, assigned, assigns_from, step_of, is_step, plain_from, plain_at, simple_from, simple_at, library_at}
+use Rattle.c_reading.specs.Read.{is_sign, is_name, is_number, read_ident, read_numeral}
+use Rattle.c_reading.specs.ReadExpr.{is_prefix, operators, Link, grow, links_with, Parenthesised, name_from, paren_from, unary_at, expr_at, prefix_at, index_at, paren_at}
+use Rattle.c_reading.specs.ReadSimple.{is_bracket, is_paren, CallTail, call_from, call_tail_at, target_at, head_from, value_head_at, value_links_at, value_from, value_at, Assigns, assigns_with, assigned, assigns_from, step_of, is_step, plain_from, plain_at, simple_from, simple_at, library_at}
 use Rattle.c_expr.specs.Parts.{unary_from, chain_at, named_value_at, named_simple_at}
 use Rattle.c_expr.proofs.OneKind.{name-prefix, name-number}
 use Rattle.c_expr.proofs.Steps.{unary-prefix, unary-number, unary-paren}

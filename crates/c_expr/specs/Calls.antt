@@ -2,13 +2,13 @@
 use Rattle.std.specs.Prelude.{List, None, Some}
 use Rattle.std.proofs.Common.{inl, inr}
 use Rattle.c_grammar.specs.declared.word.Word.TheVariants as w
-use Rattle.c_grammar.specs.Reader.{Out, seq, map_out, begins, either}
+use Rattle.c_reading.specs.Reader.{Out, seq, map_out, begins, either}
 use Rattle.c_grammar.specs.Token.{Token}
-use Rattle.c_grammar.specs.Read.{is_word, read_word}
+use Rattle.c_reading.specs.Read.{is_word, read_word}
 use Rattle.c_grammar.specs.Expr.{Expr, Long}
 use Rattle.c_grammar.specs.Simple.{ThreadArg, Library}
-use Rattle.c_grammar.specs.ReadExpr.{paren_from}
-use Rattle.c_grammar.specs.ReadSimple.{CastTail, CastArgParts, thread_arg_from, CreateParts, JoinParts, LockParts, PrintParts, ScanParts, WaitParts, WakeParts, library_from, lock_tail, wait_at}
+use Rattle.c_reading.specs.ReadExpr.{paren_from}
+use Rattle.c_reading.specs.ReadSimple.{CastTail, CastArgParts, thread_arg_from, CreateParts, JoinParts, LockParts, PrintParts, ScanParts, WaitParts, WakeParts, library_from, lock_tail, wait_at}
 use Rattle.c_raw.specs.Exprs.{long_view, expr_view}
 use Rattle.c_expr.specs.declared.headers.CastValue.{CastValue}
 

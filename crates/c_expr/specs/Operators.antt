@@ -1,6 +1,6 @@
 -- How many binary operators an index has.
 use Rattle.std.specs.Prelude.{ℕ, Option, Some, None}
-use Rattle.c_grammar.specs.ReadExpr.{operators}
+use Rattle.c_reading.specs.ReadExpr.{operators}
 use Rattle.c_raw.specs.declared.simple.Place.{Place}
 use Rattle.c_raw.specs.Exprs.{expr_view}
 

@@ -1,14 +1,14 @@
 -- The parts of expressions and simple statements that have a reader of their own here.
 use Rattle.std.specs.Prelude.{ℕ, ◌-◌, List}
 use Rattle.cfix_base.specs.declared.Spot.{Spot}
-use Rattle.c_grammar.specs.Reader.{Out, next, either, map_out, begins, seq, maybe_read}
+use Rattle.c_reading.specs.Reader.{Out, next, either, map_out, begins, seq, maybe_read}
 use Rattle.c_grammar.specs.Token.{Token}
 use Rattle.c_grammar.specs.Expr as e
 use Rattle.c_grammar.specs.Expr.{Expr, Unary, Cast}
 use Rattle.c_grammar.specs.Simple as g
-use Rattle.c_grammar.specs.Read.{read_ident}
-use Rattle.c_grammar.specs.ReadExpr.{CastParts, operators, grow, name_from, paren_from, inside_with, links_with, unary_at, expr_at, prefix_at, index_at, paren_at}
-use Rattle.c_grammar.specs.ReadSimple.{is_bracket, is_paren, CallTail, call_from, call_tail_at, assigns_with, assigns_from, value_at}
+use Rattle.c_reading.specs.Read.{read_ident}
+use Rattle.c_reading.specs.ReadExpr.{CastParts, operators, grow, name_from, paren_from, inside_with, links_with, unary_at, expr_at, prefix_at, index_at, paren_at}
+use Rattle.c_reading.specs.ReadSimple.{is_bracket, is_paren, CallTail, call_from, call_tail_at, assigns_with, assigns_from, value_at}
 use Rattle.c_raw.specs.declared.expr.Cast as raw
 use Rattle.c_raw.specs.Tokens.{ident_view}
 use Rattle.c_raw.specs.Exprs.{long_view, expr_view}

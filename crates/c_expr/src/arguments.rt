@@ -1,7 +1,7 @@
 ghost use Rattle.std.specs.Prelude.{◌≡◌, drop, IfOk};
-ghost use Rattle.c_grammar.specs.Read.{commas};
-ghost use Rattle.c_grammar.specs.ReadExpr.{expr_at};
-ghost use Rattle.c_grammar.specs.ReadSimple.{args_at, call_tail_at, call_from};
+ghost use Rattle.c_reading.specs.Read.{commas};
+ghost use Rattle.c_reading.specs.ReadExpr.{expr_at};
+ghost use Rattle.c_reading.specs.ReadSimple.{args_at, call_tail_at, call_from};
 ghost use Rattle.c_raw.specs.Tokens.{ident_view};
 ghost use Rattle.c_raw.specs.Simples.{more_view, args_view, call_view};
 ghost use Rattle.c_cursor.specs.Gives.{Gives};

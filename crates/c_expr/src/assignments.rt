@@ -1,7 +1,7 @@
 ghost use Rattle.std.specs.Prelude.{◌≡◌, drop};
-ghost use Rattle.c_grammar.specs.Reader.{map_out};
-ghost use Rattle.c_grammar.specs.ReadExpr.{expr_at};
-ghost use Rattle.c_grammar.specs.ReadSimple.{assigns_with, assigned, plain_at};
+ghost use Rattle.c_reading.specs.Reader.{map_out};
+ghost use Rattle.c_reading.specs.ReadExpr.{expr_at};
+ghost use Rattle.c_reading.specs.ReadSimple.{assigns_with, assigned, plain_at};
 ghost use Rattle.c_raw.specs.Simples.{target_view, plain_view};
 ghost use Rattle.c_cursor.specs.Gives.{Gives};
 

@@ -1,7 +1,7 @@
 ghost use Rattle.std.specs.Prelude.{◌≡◌, ℕ, ◌-◌, drop, IfOk};
-ghost use Rattle.c_grammar.specs.Reader.{maybe_read};
-ghost use Rattle.c_grammar.specs.ReadExpr.{operators, read_long, read_cast, unary_at, expr_at, index_at};
-ghost use Rattle.c_grammar.specs.ReadSimple.{is_bracket};
+ghost use Rattle.c_reading.specs.Reader.{maybe_read};
+ghost use Rattle.c_reading.specs.ReadExpr.{operators, read_long, read_cast, unary_at, expr_at, index_at};
+ghost use Rattle.c_reading.specs.ReadSimple.{is_bracket};
 ghost use Rattle.c_raw.specs.Exprs.{long_view, expr_view};
 ghost use Rattle.c_raw.specs.Simples.{index_view};
 ghost use Rattle.c_cursor.specs.Gives.{Gives};

@@ -1,7 +1,7 @@
 ghost use Rattle.std.specs.Prelude.{◌≡◌, IfOk};
 ghost use Rattle.c_grammar.specs.Expr.{level};
 ghost use Rattle.c_grammar.specs.Expr as g;
-ghost use Rattle.c_grammar.specs.ReadExpr.{append};
+ghost use Rattle.c_reading.specs.ReadExpr.{append};
 ghost use Rattle.c_raw.specs.Exprs.{binary_view, expr_view};
 
 use c_raw::{Binary, Expr};

@@ -1,9 +1,9 @@
 //! The calls of the headers.
 
 ghost use Rattle.std.specs.Prelude.{◌≡◌, drop};
-ghost use Rattle.c_grammar.specs.ReadSimple.{cast_tail_at, cast_unary_at, cast_arg_at, thread_arg_at, create_at, join_at, lock_tail, print_at, scan_at, wait_at, library_at};
-ghost use Rattle.c_grammar.specs.Reader.{map_out, seq};
-ghost use Rattle.c_grammar.specs.Read.{read_word};
+ghost use Rattle.c_reading.specs.ReadSimple.{cast_tail_at, cast_unary_at, cast_arg_at, thread_arg_at, create_at, join_at, lock_tail, print_at, scan_at, wait_at, library_at};
+ghost use Rattle.c_reading.specs.Reader.{map_out, seq};
+ghost use Rattle.c_reading.specs.Read.{read_word};
 ghost use Rattle.c_grammar.specs.declared.word.Word.TheVariants as w;
 ghost use Rattle.c_raw.specs.Simples.{thread_arg_view, create_view, library_view};
 ghost use Rattle.c_cursor.specs.Gives.{Gives};

@@ -1,5 +1,5 @@
 ghost use Rattle.std.specs.Prelude.{◌≡◌, ◌-◌, IfOk, ℕ};
-ghost use Rattle.c_grammar.specs.ReadExpr.{operators, name_from};
+ghost use Rattle.c_reading.specs.ReadExpr.{operators, name_from};
 ghost use Rattle.c_raw.specs.Tokens.{ident_view};
 ghost use Rattle.c_raw.specs.Exprs.{expr_view};
 ghost use Rattle.c_raw.specs.Simples.{index_view};

@@ -1,6 +1,6 @@
 ghost use Rattle.std.specs.Prelude.{◌≡◌, drop};
-ghost use Rattle.c_grammar.specs.Read.{commas};
-ghost use Rattle.c_grammar.specs.ReadOp.{read_op, read_ops};
+ghost use Rattle.c_reading.specs.Read.{commas};
+ghost use Rattle.c_reading.specs.ReadOp.{read_op, read_ops};
 ghost use Rattle.c_raw.specs.Ops.{op_view, ops_view, more_ops_view};
 ghost use Rattle.c_cursor.specs.Gives.{Gives};
 

@@ -1,10 +1,10 @@
 //! Which operator, sign or verb is next.
 
 ghost use Rattle.std.specs.Prelude.{◌≡◌, drop};
-ghost use Rattle.c_grammar.specs.Reader.{begins};
-ghost use Rattle.c_grammar.specs.ReadExpr.{is_prefix, prefix_of, binary_of, begins_expr};
-ghost use Rattle.c_grammar.specs.ReadSimple.{change_of, step_of, is_step};
-ghost use Rattle.c_grammar.specs.ReadOp.{verb_of, is_verb};
+ghost use Rattle.c_reading.specs.Reader.{begins};
+ghost use Rattle.c_reading.specs.ReadExpr.{is_prefix, prefix_of, binary_of, begins_expr};
+ghost use Rattle.c_reading.specs.ReadSimple.{change_of, step_of, is_step};
+ghost use Rattle.c_reading.specs.ReadOp.{verb_of, is_verb};
 ghost use Rattle.c_expr.specs.Finds.{Finds};
 ghost use Rattle.c_expr.specs.Signs.{prefix_look, binary_look, change_look, step_look, verb_look, begins_expr_look, prefix_at_view, binary_at_view, change_at_view, step_at_view, verb_at_view};
 

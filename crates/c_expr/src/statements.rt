@@ -1,6 +1,6 @@
 ghost use Rattle.std.specs.Prelude.{◌≡◌, drop};
-ghost use Rattle.c_grammar.specs.Reader.{map_out};
-ghost use Rattle.c_grammar.specs.ReadSimple.{set_from, assigns_with, assigns_from, value_at, simple_at};
+ghost use Rattle.c_reading.specs.Reader.{map_out};
+ghost use Rattle.c_reading.specs.ReadSimple.{set_from, assigns_with, assigns_from, value_at, simple_at};
 ghost use Rattle.c_raw.specs.Simples.{target_view, value_view, simple_view};
 ghost use Rattle.c_cursor.specs.Gives.{Gives};
 ghost use Rattle.c_expr.specs.Parts.{named_simple_at};

@@ -1,6 +1,6 @@
 ghost use Rattle.std.specs.Prelude.{◌≡◌, ◌-◌, drop, IfOk};
-ghost use Rattle.c_grammar.specs.ReadExpr.{operators, name_from};
-ghost use Rattle.c_grammar.specs.ReadSimple.{target_at};
+ghost use Rattle.c_reading.specs.ReadExpr.{operators, name_from};
+ghost use Rattle.c_reading.specs.ReadSimple.{target_at};
 ghost use Rattle.c_raw.specs.Tokens.{ident_view};
 ghost use Rattle.c_raw.specs.Exprs.{expr_view};
 ghost use Rattle.c_raw.specs.Simples.{index_view, target_view};

@@ -1,5 +1,5 @@
 ghost use Rattle.std.specs.Prelude.{◌≡◌, drop};
-ghost use Rattle.c_grammar.specs.ReadSimple.{value_at};
+ghost use Rattle.c_reading.specs.ReadSimple.{value_at};
 ghost use Rattle.c_raw.specs.Simples.{value_view};
 ghost use Rattle.c_cursor.specs.Gives.{Gives};
 ghost use Rattle.c_expr.specs.Parts.{named_value_at};

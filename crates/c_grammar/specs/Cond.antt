@@ -2,7 +2,7 @@
 use Rattle.std.specs.Prelude.{ℕ, suc, Bool, true, List, [], ◌∷◌, ◌++◌}
 use Rattle.cfix_base.specs.declared.Spot.{Spot}
 use Rattle.c_grammar.specs.declared.sign.Sign.TheVariants as s
-use Rattle.c_grammar.specs.Reader.{each}
+use Rattle.c_grammar.specs.Marks.{each}
 use Rattle.c_grammar.specs.Token.{numeral, word, sign, digit, Mark}
 use Rattle.c_grammar.specs.Expr.{Expr, is_expr, Piece, plain, pieces, placed}
 use Rattle.c_grammar.specs.Op.{Op, OpOf, verb_word}

@@ -5,7 +5,7 @@ use Rattle.cfix_base.specs.declared.Spot.{Spot}
 use Rattle.c_grammar.specs.declared.word.Word.{Word}
 use Rattle.c_grammar.specs.declared.word.Word.TheVariants as w
 use Rattle.c_grammar.specs.declared.sign.Sign.TheVariants as s
-use Rattle.c_grammar.specs.Reader.{each}
+use Rattle.c_grammar.specs.Marks.{each}
 use Rattle.c_grammar.specs.Token.{Ident, Numeral, ident, numeral, word, sign, Mark}
 use Rattle.c_grammar.specs.Expr.{Expr, is_expr, expr_marks}
 use Rattle.c_grammar.specs.Simple.{Value, is_value, value_marks}

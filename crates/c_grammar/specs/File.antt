@@ -6,7 +6,7 @@ use Rattle.cfix_base.specs.declared.Spot.{Spot}
 use Rattle.c_grammar.specs.declared.word.Word.{Word}
 use Rattle.c_grammar.specs.declared.word.Word.TheVariants as w
 use Rattle.c_grammar.specs.declared.sign.Sign.TheVariants as s
-use Rattle.c_grammar.specs.Reader.{each, head, tokens}
+use Rattle.c_grammar.specs.Marks.{each, head, tokens}
 use Rattle.c_grammar.specs.Token.{Kind, IsName, IsSign, Token, Ident, Numeral, Text, ident, numeral, quoted, word, sign, Mark}
 use Rattle.c_grammar.specs.Op.{Ops, ops_marks}
 use Rattle.c_grammar.specs.Decl.{Globals, globals_marks, Qualifier, qualifiers_marks}

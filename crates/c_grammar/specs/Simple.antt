@@ -5,7 +5,7 @@ use Rattle.cfix_base.specs.declared.Spot.{Spot}
 use Rattle.c_grammar.specs.declared.word.Word.TheVariants as w
 use Rattle.c_grammar.specs.declared.sign.Sign.{Sign}
 use Rattle.c_grammar.specs.declared.sign.Sign.TheVariants as s
-use Rattle.c_grammar.specs.Reader.{each, maybe}
+use Rattle.c_grammar.specs.Marks.{each, maybe}
 use Rattle.c_grammar.specs.Token.{Ident, Text, ident, quoted, word, sign, Mark}
 use Rattle.c_grammar.specs.Expr.{Expr, is_expr, is_unary, pieces, placed, expr_marks, Long, long_pieces}
 

@@ -4,7 +4,7 @@ use Rattle.std.specs.List.{list_all}
 use Rattle.cfix_base.specs.declared.Spot.{Spot}
 use Rattle.c_grammar.specs.declared.word.Word.TheVariants as w
 use Rattle.c_grammar.specs.declared.sign.Sign.TheVariants as s
-use Rattle.c_grammar.specs.Reader.{each, maybe}
+use Rattle.c_grammar.specs.Marks.{each, maybe}
 use Rattle.c_grammar.specs.Token.{word, sign, Mark}
 use Rattle.c_grammar.specs.Op.{Op, op_marks, Ops, ops_marks, more_ops_marks}
 use Rattle.c_grammar.specs.Simple.{Value, is_value, value_marks, Plain, is_plain, plain_marks, Simple, is_simple, simple_marks}

@@ -1,7 +1,7 @@
 -- What a whole text is for a grammar, and at which token reading one stops. A grammar is given by the tokens of each
 -- tree with their depths, and by a test that says which trees it derives.
 use Rattle.std.specs.Prelude.{◌≡◌, ℕ, ◌≤◌, ◌<◌, Bool, true, List, [], ◌∷◌, ◌++◌}
-use Rattle.c_grammar.specs.Reader.{Unexpected, Deep, Out, Got, Stop, tokens, Agree}
+use Rattle.c_grammar.specs.Marks.{tokens, Agree}
 
 -- no token is deeper than the limit
 abbrev pub IsShallow : {T : Type 0} → ℕ → List (T × ℕ) → Type 0
@@ -46,12 +46,3 @@ pub record IsDeepAt {T A : Type 0} (limit : ℕ) (marks : A → List (T × ℕ))
   pub begun : IsBegun marks good (seen ++ token ∷ [])
   pub shallow : (a : A) (ms tail : List (T × ℕ)) (m : T × ℕ) → good a ≡ true → marks a ≡ ms ++ m ∷ tail → tokens ms ≡ seen → m.0 ≡ token → IsShallow limit ms
   pub deep : (a : A) (ms tail : List (T × ℕ)) (m : T × ℕ) → good a ≡ true → marks a ≡ ms ++ m ∷ tail → tokens ms ≡ seen → m.0 ≡ token → limit < m.1
-
--- The reader answers a tree exactly where the tokens are its, and each fault exactly where it stands.
-pub record ReadsExactly {T A : Type 0} (limit : ℕ) (marks : A → List (T × ℕ)) (good : A → Bool) (p : List T → Out T A) : Type 0 where
-  pub found : (ts : List T) (a : A) (rest : List T) → p ts ≡ Got a rest → (rest ≡ []) × IsRead limit marks good ts a
-  pub finds : (ts : List T) (a : A) → IsRead limit marks good ts a → p ts ≡ Got a []
-  pub unexpected : (ts rest : List T) → p ts ≡ Stop Unexpected rest → IsUnexpectedAt limit marks good ts rest
-  pub stops_unexpected : (ts rest : List T) → IsUnexpectedAt limit marks good ts rest → p ts ≡ Stop Unexpected rest
-  pub deep : (ts rest : List T) → p ts ≡ Stop Deep rest → IsDeepAt limit marks good ts rest
-  pub stops_deep : (ts rest : List T) → IsDeepAt limit marks good ts rest → p ts ≡ Stop Deep rest

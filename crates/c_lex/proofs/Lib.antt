@@ -11,3 +11,4 @@ pub mod Outcomes
 pub mod Turns
 pub mod Exact
 pub mod Again
+pub mod TextBytes

@@ -1,4 +1,5 @@
-use Rattle.std.specs.Prelude.{◌≡◌, ◌⊎◌, ℕ, List, Result, Err}
+use Rattle.std.specs.Prelude.{◌≡◌, ◌⊎◌, ℕ, nat_le, true, List, Result, Err}
+use Rattle.std.specs.List.{list_all}
 use Rattle.cfix_base.specs.declared.spot.Spot.{Spot}
 use Rattle.c_lex.specs.declared.token.Token.{Token}
 use Rattle.c_lex.specs.declared.fault.LexFault.{LexFault}
@@ -21,6 +22,12 @@ pub record Lexes (text : List ℕ) (lexed : Lexed) : Type 0 where
   pub tokens : lexed.tokens ≡ tokens_of pieces
   pub lengths : lexed.lengths ≡ lengths_of pieces
   pub end : lexed.end ≡ spot_behind text
+
+-- these are the tokens of some text of bytes, and its end
+pub record IsLexed (lexed : Lexed) : Type 0 where
+  pub text : List ℕ
+  pub bytes : list_all (λ byte. nat_le byte 255) text ≡ true
+  pub lexes : Lexes text lexed
 
 -- the answer is this one, or there was no memory for it
 abbrev pub IsOrNoMemory : Result Lexed LexFault → Result Lexed LexFault → Type 0

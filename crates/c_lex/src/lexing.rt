@@ -3,7 +3,7 @@ ghost use Rattle.std.specs.List.{count_by};
 ghost use Rattle.c_lex.specs.Bytes.{is_line_feed};
 ghost use Rattle.c_lex.specs.Division.{HasOneDivision};
 ghost use Rattle.c_lex.specs.Faults.{IsFirstFault, IsCaused};
-ghost use Rattle.c_lex.specs.Lexed.{Lexed, Lexes, IsOrNoMemory};
+ghost use Rattle.c_lex.specs.Lexed.{Lexed, Lexes, IsLexed, IsOrNoMemory};
 ghost use Rattle.c_lex.specs.Reading.{outcome, pieces_at};
 ghost use Rattle.c_lex.specs.Steps.{Comes};
 ghost use Rattle.c_lex.specs.declared.fault.LexFault.{LexFault};
@@ -71,6 +71,7 @@ pub fn lex(alloc: Global, text: &[u8]) -> Result<Tokens, LexFault>
 
     // The tokens, and only where no piece has a fault.
     ensures tokens { IfOk result (λ tokens. Lexes text.now tokens) }
+    ensures are_lexed { IfOk result (λ tokens. IsLexed tokens) }
     ensures whole { (lexed : Lexed) → Lexes text.now lexed → IsOrNoMemory result (Ok lexed) }
 
     // The first fault, wherever there is one.

@@ -1,5 +1,5 @@
 ghost use Rattle.std.specs.Prelude.{◌≡◌, ◌++◌, map, option_map, OnOk};
-ghost use Rattle.c_grammar.specs.Reader.{each};
+ghost use Rattle.c_grammar.specs.Marks.{each};
 ghost use Rattle.c_raw.specs.Simples.{value_view, simple_view};
 ghost use Rattle.c_raw.specs.Decls.{local_int_view, more_local_ints_view, decl_view};
 ghost use Rattle.c_raw.specs.Stmts.{jump_view, else_from, stmt_view, else_view, item_view, items_view};

@@ -10,7 +10,8 @@ use Rattle.c_names.specs.declared.fault.Fault.{Fault}
 use Rattle.c_names.specs.Faults.{is_limit}
 use Rattle.c_names.specs.Files.{faults_of}
 use Rattle.c_names.specs.Sources.{source_of}
-use Rattle.c_names.specs.Texts.{is_known, tokens_read, Spells, Accepts}
+use Rattle.c_names.specs.Texts.{is_known, Spells, Accepts}
+use Rattle.c_grammar.specs.Lexical.{tokens_read}
 
 -- a piece without a fault is not refused
 known_one : (v : Verdict) (count : ℕ) (spot : Spot) → fault_of v count spot ≡ None → is_known v ≡ true

@@ -2,13 +2,13 @@
 use Rattle.std.proofs.Common.{◌≡◌, ℕ, List, [], ◌∷◌, Option, Some, None, refl, codes}
 use Rattle.c_lex.specs.Faults.{spot_behind, tokens_of}
 use Rattle.c_lex.specs.Reading.{pieces_at}
-use Rattle.c_grammar.specs.Reader.{Out, Got, Stop}
-use Rattle.c_grammar.specs.ReadCond.{inner_at, cond_at}
-use Rattle.c_grammar.specs.ReadDecl.{local_at, decl_at, loop_int_at}
-use Rattle.c_grammar.specs.ReadExpr.{unary_at, expr_at, prefix_at, index_at, paren_at}
-use Rattle.c_grammar.specs.ReadFile.{read_file}
-use Rattle.c_grammar.specs.ReadSimple.{value_at, plain_at, thread_arg_at, library_at, simple_at}
-use Rattle.c_grammar.specs.ReadStmt.{stmt_at}
+use Rattle.c_reading.specs.Reader.{Out, Got, Stop}
+use Rattle.c_reading.specs.ReadCond.{inner_at, cond_at}
+use Rattle.c_reading.specs.ReadDecl.{local_at, decl_at, loop_int_at}
+use Rattle.c_reading.specs.ReadExpr.{unary_at, expr_at, prefix_at, index_at, paren_at}
+use Rattle.c_reading.specs.ReadFile.{read_file}
+use Rattle.c_reading.specs.ReadSimple.{value_at, plain_at, thread_arg_at, library_at, simple_at}
+use Rattle.c_reading.specs.ReadStmt.{stmt_at}
 use Rattle.c_grammar.specs.File.{File}
 use Rattle.c_grammar.specs.Token.{Token}
 use Rattle.c_prog.proofs.ValidEquations.{valid_steps}
@@ -17,7 +17,7 @@ use Rattle.c_names.specs.declared.fault.FaultKind.{FaultKind}
 use Rattle.c_names.specs.declared.fault.FaultKind.TheVariants.{Unknown, Twice, Arity, WrongUse, NoReturn, RootCalled, Reserved, Limit}
 use Rattle.c_names.specs.Faults.{noted, noted_all}
 use Rattle.c_names.specs.Files.{faults_of}
-use Rattle.c_names.specs.Texts.{tokens_read}
+use Rattle.c_grammar.specs.Lexical.{tokens_read}
 
 -- the file that is read
 abbrev file_in : Out Token File → File

@@ -4,10 +4,11 @@ use Rattle.c_lex.specs.Pieces.{Piece}
 use Rattle.c_lex.specs.Faults.{tokens_of}
 use Rattle.c_lex.proofs.Divisions.{unique}
 use Rattle.c_grammar.specs.File.{file_tokens}
-use Rattle.c_grammar.proofs.ReadFile.{file_one_tree}
+use Rattle.c_reading.proofs.ReadFile.{file_one_tree}
 use Rattle.c_prog.specs.Lines.{SourceTree}
 use Rattle.c_names.specs.Sources.{source_of}
-use Rattle.c_names.specs.Texts.{tokens_read, Spells}
+use Rattle.c_grammar.specs.Lexical.{tokens_read}
+use Rattle.c_names.specs.Texts.{Spells}
 
 pub one_source : (text : List ℕ) (a b : SourceTree) → Spells text a → Spells text b → a ≡ b
 one_source text a b x y =

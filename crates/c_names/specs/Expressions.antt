@@ -1,7 +1,7 @@
 -- Expressions, targets and calls: the faults of their names.
 use Rattle.std.specs.Prelude.{ℕ, Bool, true, false, not, ◌&&◌, ◌||◌, ◌==◌, nat_lt, List, [], ◌∷◌, ◌++◌, map, length, Option, Some, None}
 use Rattle.cfix_base.specs.declared.limits.TheConstants.{MAX_ARGUMENTS}
-use Rattle.c_grammar.specs.Reader.{each}
+use Rattle.c_grammar.specs.Marks.{each}
 use Rattle.c_grammar.specs.Token.{Ident}
 use Rattle.c_grammar.specs.Expr.{Expr, Number, Name, Index, Paren, Cast, Unary, Operation}
 use Rattle.c_grammar.specs.Simple.{Place, Target, TargetOf, Args, Call, CallOf, Value, Computed, Called}

@@ -2,7 +2,7 @@
 use Rattle.std.specs.Prelude.{ℕ, Bool, true, false, not, ◌&&◌, ◌==◌, List, [], ◌∷◌, ◌++◌, map, Option, Some, None, codes}
 use Rattle.cfix_base.specs.declared.limits.TheConstants.{MAX_NODES, MAX_FUNCTIONS, MAX_GLOBALS, MAX_GLOBAL_CELLS, MAX_LOCAL_CELLS}
 use Rattle.cfix_base.specs.declared.Spot.{Spot}
-use Rattle.c_grammar.specs.Reader.{each, maybe}
+use Rattle.c_grammar.specs.Marks.{each, maybe}
 use Rattle.c_grammar.specs.Token.{Ident}
 use Rattle.c_grammar.specs.Op.{Ops}
 use Rattle.c_grammar.specs.Decl.{Size, Hold, OneThread, Threads, GlobalInt, OneGlobal, SetGlobal, GlobalArray, GlobalMutex, OneMutex, SetMutex, GlobalCond, OneCond, SetCond, Globals, GlobalInts, GlobalHolds, GlobalMutexes, GlobalConds}

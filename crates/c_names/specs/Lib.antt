@@ -17,4 +17,3 @@ pub mod Starts
 pub mod Files
 pub mod Sources
 pub mod Texts
-pub mod Parsed

@@ -2,7 +2,7 @@
 use Rattle.std.specs.Prelude.{ℕ, Bool, false, not, ◌==◌, nat_lt, List, [], ◌++◌, map, length, unsigned_abs}
 use Rattle.cfix_base.specs.declared.limits.TheConstants.{MAX_ARGUMENTS, MAX_OPERATION_NUMBER}
 use Rattle.cfix_base.specs.declared.Spot.{Spot}
-use Rattle.c_grammar.specs.Reader.{each}
+use Rattle.c_grammar.specs.Marks.{each}
 use Rattle.c_grammar.specs.Token.{Ident}
 use Rattle.c_grammar.specs.Op.{Op, OpOf, Ops}
 use Rattle.c_grammar.specs.Simple.{ThreadArg, NullArg, CastArg, Plain, SetTo, Changed, SteppedAfter, SteppedBefore, Library, Create, Join, Lock, Unlock, Print, Scan, Wait, Signal, Broadcast, Simple, PlainPart, SetCall, OnlyCall, LibraryPart}
@@ -55,8 +55,8 @@ abbrev pub mutex_faults : Names → Scope → Ident → List Fault
 mutex_faults names scope m = reserved_faults m ++ use_faults (is_mutex (kind_of (use_of names scope m.text))) (use_of names scope m.text) m.spot
 
 -- a condition variable
-abbrev pub cond_faults : Names → Scope → Ident → List Fault
-cond_faults names scope c = reserved_faults c ++ use_faults (is_cond (kind_of (use_of names scope c.text))) (use_of names scope c.text) c.spot
+abbrev pub cond_variable_faults : Names → Scope → Ident → List Fault
+cond_variable_faults names scope c = reserved_faults c ++ use_faults (is_cond (kind_of (use_of names scope c.text))) (use_of names scope c.text) c.spot
 
 -- The word printf: as many arguments as the string has `%d`, and at most 16.
 abbrev pub printf_faults : ℕ → List ℕ → Spot → List Fault
@@ -73,9 +73,9 @@ library_faults names scope (Print at before text more after) =
     printf_faults (length more) text.bytes at ++ (fault_if (has_other text.bytes) text.spot WrongUse ++ exprs_faults names scope (map (λ y. y.1) more))
 library_faults names scope (Scan at before text comma amp t after) =
     fault_if (not (is_scan_text text.bytes)) text.spot WrongUse ++ int_target_faults names scope t
-library_faults names scope (Wait at before amp1 c comma amp2 m after) = cond_faults names scope c ++ mutex_faults names scope m
-library_faults names scope (Signal at before amp c after) = cond_faults names scope c
-library_faults names scope (Broadcast at before amp c after) = cond_faults names scope c
+library_faults names scope (Wait at before amp1 c comma amp2 m after) = cond_variable_faults names scope c ++ mutex_faults names scope m
+library_faults names scope (Signal at before amp c after) = cond_variable_faults names scope c
+library_faults names scope (Broadcast at before amp c after) = cond_variable_faults names scope c
 
 -- a simple statement that is no declaration
 abbrev pub simple_faults : Names → Scope → Simple → List Fault

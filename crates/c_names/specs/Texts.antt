@@ -1,38 +1,21 @@
 -- Which source a text spells, and which texts are accepted. The text divides into tokens; the tokens are those of a file of the
 -- grammar; and the names of the file resolve to the source.
-use Rattle.std.specs.Prelude.{◌≡◌, ℕ, ◌≤◌, Bool, true, false, List, [], length, map}
+use Rattle.std.specs.Prelude.{◌≡◌, ℕ, ◌≤◌, Bool, true, false, List, [], length}
 use Rattle.std.specs.List.{list_all}
 use Rattle.cfix_base.specs.declared.limits.TheConstants.{MAX_DEPTH, MAX_SOURCE_BYTES}
-use Rattle.c_lex.specs.declared.token.Kind as k
-use Rattle.c_lex.specs.declared.token.Kind.TheVariants as lexed_kind
-use Rattle.c_lex.specs.declared.token.Token as t
 use Rattle.c_lex.specs.Pieces.{Piece}
 use Rattle.c_lex.specs.Division.{Divides}
 use Rattle.c_lex.specs.Meaning.{Verdict, Refuses, verdict}
 use Rattle.c_lex.specs.Faults.{spot_behind, tokens_of}
 use Rattle.c_lex.specs.Lexed.{Lexed, Lexes}
-use Rattle.c_grammar.specs.Token.{Kind, IsName, IsNumber, IsQuoted, Token}
-use Rattle.c_grammar.specs.Spelling.{word_kind, sign_kind}
+use Rattle.c_grammar.specs.Token.{Token}
+use Rattle.c_grammar.specs.Lexical.{tokens_read}
 use Rattle.c_grammar.specs.File.{File, file_marks, file_tokens, is_file}
 use Rattle.c_grammar.specs.Verdict.{IsRead}
 use Rattle.c_prog.specs.Lines.{SourceTree}
 use Rattle.c_names.specs.Faults.{is_limit}
 use Rattle.c_names.specs.Files.{faults_of}
 use Rattle.c_names.specs.Sources.{source_of}
-
--- a token of the text as the grammar knows it
-abbrev pub kind_read : k.Kind → Kind
-kind_read (lexed_kind.Name text) = IsName text
-kind_read (lexed_kind.Word text) = word_kind text
-kind_read (lexed_kind.Number n) = IsNumber n
-kind_read (lexed_kind.Quoted bytes) = IsQuoted bytes
-kind_read (lexed_kind.Sign text) = sign_kind text
-
-abbrev pub token_read : t.Token → Token
-token_read token = record { kind = kind_read token.kind; spot = token.spot }
-
-abbrev pub tokens_read : List t.Token → List Token
-tokens_read tokens = map token_read tokens
 
 -- the piece is a token, or stands between tokens
 abbrev pub is_known : Verdict → Bool

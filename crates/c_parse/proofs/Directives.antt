@@ -3,9 +3,9 @@ use Rattle.std.proofs.Common.{◌≡◌, ℕ, eqb, Bool, true, false, List, [], 
 use Rattle.std.specs.Str.{bytes_eq}
 use Rattle.cfix_base.specs.declared.Spot.{Spot}
 use Rattle.c_grammar.specs.Token.{Kind, IsName, Token, Ident, Text}
-use Rattle.c_grammar.specs.Reader.{Fault, Unexpected, Out, Got, Stop, next, one_of, one_at, seq, map_out, mapped, either, begins}
-use Rattle.c_grammar.specs.Read.{ident_of, text_of}
-use Rattle.c_grammar.specs.ReadFile as read
+use Rattle.c_reading.specs.Reader.{Fault, Unexpected, Out, Got, Stop, next, one_of, one_at, seq, map_out, mapped, either, begins}
+use Rattle.c_reading.specs.Read.{ident_of, text_of}
+use Rattle.c_reading.specs.ReadFile as read
 use Rattle.c_cursor.specs.Seen.{spot_at}
 use Rattle.c_stmt.proofs.Outs.{map_map, map_same, seq_is, alt_is}
 use Rattle.c_parse.specs.Directives.{Parts, included, defined, directive_tail_at}

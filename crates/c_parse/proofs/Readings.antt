@@ -1,22 +1,21 @@
 -- Reading a whole file, step by step.
-use Rattle.std.proofs.Common.{◌≡◌, ◌≢◌, List, [], ◌∷◌, Some, refl, ap, ◌∙◌, arith}
+use Rattle.std.proofs.Common.{◌≡◌, ◌≢◌, List, [], ◌∷◌, refl, ap, ◌∙◌, arith}
 use Rattle.c_grammar.specs.declared.word.Word.TheVariants as w
 use Rattle.c_grammar.specs.declared.sign.Sign.TheVariants as s
 use Rattle.c_grammar.specs.Token.{Kind, IsWord, IsSign, Token}
-use Rattle.c_grammar.specs.Reader.{Fault, Unexpected, Got, Stop, ended, begins, size, many}
+use Rattle.c_reading.specs.Reader.{Fault, Unexpected, Got, Stop, ended, begins, size, many}
 use Rattle.c_grammar.specs.File.{File}
-use Rattle.c_grammar.specs.ReadFile.{begins_top, begins_top_kind, checked, top_at, read_file}
-use Rattle.c_cursor.specs.Seen.{look_of, look_at}
-use Rattle.c_parse.specs.Parsed.{look_top}
+use Rattle.c_reading.specs.ReadFile.{begins_top, begins_top_kind, checked, top_at, read_file}
+use Rattle.c_cursor.specs.Seen.{look_of, look_at, bare_kind, passes}
+use Rattle.c_cursor.proofs.Looks.{passes-begins}
 
-top_kind : (k : Kind) → look_top (Some (look_of k)) ≡ begins_top_kind k
+top_kind : (k : Kind) → begins_top_kind (bare_kind (look_of k)) ≡ begins_top_kind k
 top_kind (IsWord w.Int) = refl
 top_kind (IsSign s.Hash) = refl
 top_kind k = refl
 
-pub top_look : (ts : List Token) → look_top (look_at ts) ≡ begins begins_top ts
-top_look [] = refl
-top_look (t ∷ ts) = top_kind t.kind
+pub top_look : (ts : List Token) → passes begins_top_kind (look_at ts) ≡ begins begins_top ts
+top_look = passes-begins begins_top_kind top_kind
 
 end_got : (tops : File) (rest : List Token) → size rest ≡ 0 → ended (Got tops rest) ≡ Got tops []
 end_got tops [] h = refl

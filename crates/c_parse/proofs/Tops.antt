@@ -4,11 +4,11 @@ use Rattle.cfix_base.specs.declared.Spot.{Spot}
 use Rattle.c_grammar.specs.declared.word.Word.TheVariants as w
 use Rattle.c_grammar.specs.declared.sign.Sign.TheVariants as s
 use Rattle.c_grammar.specs.Token.{Token, Ident}
-use Rattle.c_grammar.specs.Reader.{seq, seq_dep, map_out, alt, either, begins}
-use Rattle.c_grammar.specs.Read.{is_word, is_sign, read_word, read_sign, read_ident}
-use Rattle.c_grammar.specs.ReadSimple.{is_paren}
+use Rattle.c_reading.specs.Reader.{seq, seq_dep, map_out, alt, either, begins}
+use Rattle.c_reading.specs.Read.{is_word, is_sign, read_word, read_sign, read_ident}
+use Rattle.c_reading.specs.ReadSimple.{is_paren}
 use Rattle.c_grammar.specs.File as g
-use Rattle.c_grammar.specs.ReadFile as read
+use Rattle.c_reading.specs.ReadFile as read
 use Rattle.c_stmt.proofs.Outs.{map_map, map_same, next_same, either_same, seq_is, dep_is, alt_is}
 use Rattle.c_parse.specs.Globals.{holds_from, mutexes_from, conds_from, read_holds_at, read_mutexes_at, read_conds_at}
 use Rattle.c_parse.specs.Tops.{plain_top, ints_top, void_from, int_from, with_globals, last_from, behind_qualifiers, declared_at}

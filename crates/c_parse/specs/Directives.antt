@@ -5,10 +5,10 @@ use Rattle.std.specs.Str.{bytes_eq}
 use Rattle.cfix_base.specs.declared.Spot.{Spot}
 use Rattle.c_grammar.specs.declared.sign.Sign.TheVariants as s
 use Rattle.c_grammar.specs.Token as t
-use Rattle.c_grammar.specs.Reader.{Out, Stop, Unexpected, next, one_of, seq, map_out, mapped, either}
-use Rattle.c_grammar.specs.Read.{read_sign, ident_of}
+use Rattle.c_reading.specs.Reader.{Out, Stop, Unexpected, next, one_of, seq, map_out, mapped, either}
+use Rattle.c_reading.specs.Read.{read_sign, ident_of}
 use Rattle.c_grammar.specs.File as g
-use Rattle.c_grammar.specs.ReadFile as read
+use Rattle.c_reading.specs.ReadFile as read
 use Rattle.c_raw.specs.declared.token.Token.{Token}
 use Rattle.c_raw.specs.Tokens.{ident_view, token_view}
 use Rattle.c_raw.specs.Files.{header_view, replacement_view}

@@ -4,11 +4,11 @@ use Rattle.std.proofs.Common.{inl, inr}
 use Rattle.cfix_base.specs.declared.Spot.{Spot}
 use Rattle.c_grammar.specs.declared.sign.Sign.TheVariants as s
 use Rattle.c_grammar.specs.Token.{Token}
-use Rattle.c_grammar.specs.Reader.{Out, seq, mapped}
-use Rattle.c_grammar.specs.Read.{read_sign}
+use Rattle.c_reading.specs.Reader.{Out, seq, mapped}
+use Rattle.c_reading.specs.Read.{read_sign}
 use Rattle.c_grammar.specs.Decl as g
-use Rattle.c_grammar.specs.ReadDecl as read
-use Rattle.c_grammar.specs.ReadFile.{GlobalTail, HoldParts, MutexParts, CondParts, read_holds, read_mutexes, read_conds}
+use Rattle.c_reading.specs.ReadDecl as read
+use Rattle.c_reading.specs.ReadFile.{GlobalTail, HoldParts, MutexParts, CondParts, read_holds, read_mutexes, read_conds}
 use Rattle.c_raw.specs.declared.decl.GlobalInt.{GlobalInt}
 use Rattle.c_raw.specs.declared.decl.GlobalMutex.{GlobalMutex}
 use Rattle.c_raw.specs.declared.decl.GlobalCond.{GlobalCond}

@@ -4,10 +4,10 @@ use Rattle.std.proofs.Common.{inl, inr}
 use Rattle.cfix_base.specs.declared.Spot.{Spot}
 use Rattle.c_grammar.specs.declared.sign.Sign.TheVariants as s
 use Rattle.c_grammar.specs.Token.{Token}
-use Rattle.c_grammar.specs.Reader.{Out, seq}
-use Rattle.c_grammar.specs.Read.{read_sign}
+use Rattle.c_reading.specs.Reader.{Out, seq}
+use Rattle.c_reading.specs.Read.{read_sign}
 use Rattle.c_grammar.specs.File as g
-use Rattle.c_grammar.specs.ReadFile as read
+use Rattle.c_reading.specs.ReadFile as read
 use Rattle.c_raw.specs.declared.file.Param.{Param}
 use Rattle.c_raw.specs.Tokens.{ident_view}
 use Rattle.c_raw.specs.Ops.{ops_view}

@@ -4,13 +4,13 @@ use Rattle.cfix_base.specs.declared.Spot.{Spot}
 use Rattle.c_grammar.specs.declared.word.Word.TheVariants as w
 use Rattle.c_grammar.specs.declared.sign.Sign.TheVariants as s
 use Rattle.c_grammar.specs.Token.{Token, Ident}
-use Rattle.c_grammar.specs.Reader.{Out, next, map_out, begins, either}
-use Rattle.c_grammar.specs.Read.{is_word, is_sign, read_word, read_ident}
-use Rattle.c_grammar.specs.ReadSimple.{is_paren}
-use Rattle.c_grammar.specs.ReadDecl.{global_int_from}
+use Rattle.c_reading.specs.Reader.{Out, next, map_out, begins, either}
+use Rattle.c_reading.specs.Read.{is_word, is_sign, read_word, read_ident}
+use Rattle.c_reading.specs.ReadSimple.{is_paren}
+use Rattle.c_reading.specs.ReadDecl.{global_int_from}
 use Rattle.c_grammar.specs.Decl as d
 use Rattle.c_grammar.specs.File as g
-use Rattle.c_grammar.specs.ReadFile as read
+use Rattle.c_reading.specs.ReadFile as read
 use Rattle.c_raw.specs.declared.decl.Qualifier.{Qualifier}
 use Rattle.c_raw.specs.declared.decl.Qualifier.TheVariants as qualifier
 use Rattle.c_raw.specs.Decls.{qualifier_view}

@@ -1,8 +1,8 @@
 //! Includes and defines, each on one line (6.10 of ISO/IEC 9899:2011).
 ghost use Rattle.std.specs.Prelude.{◌≡◌, eqb, drop};
-ghost use Rattle.c_grammar.specs.Reader.{one_of, many, begins};
-ghost use Rattle.c_grammar.specs.Read.{ident_of, numeral_of, text_of};
-ghost use Rattle.c_grammar.specs.ReadFile.{on_line, sign_on, header_text_of, is_inside, inside_of, header_from, replacement_from};
+ghost use Rattle.c_reading.specs.Reader.{one_of, many, begins};
+ghost use Rattle.c_reading.specs.Read.{ident_of, numeral_of, text_of};
+ghost use Rattle.c_reading.specs.ReadFile.{on_line, sign_on, header_text_of, is_inside, inside_of, header_from, replacement_from};
 ghost use Rattle.c_raw.specs.Tokens.{ident_view, numeral_view, text_view, token_view};
 ghost use Rattle.c_raw.specs.Files.{header_view, replacement_view, top_view};
 ghost use Rattle.c_cursor.specs.Seen.{spot_at};

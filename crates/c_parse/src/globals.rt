@@ -1,10 +1,10 @@
 //! Declarations of global variables (6.7 of ISO/IEC 9899:2011).
 ghost use Rattle.std.specs.Prelude.{◌≡◌, drop};
-ghost use Rattle.c_grammar.specs.Reader.{maybe_read};
-ghost use Rattle.c_grammar.specs.Read.{is_sign, read_sign, commas};
+ghost use Rattle.c_reading.specs.Reader.{maybe_read};
+ghost use Rattle.c_reading.specs.Read.{is_sign, read_sign, commas};
 ghost use Rattle.c_grammar.specs.declared.sign.Sign.TheVariants as s;
-ghost use Rattle.c_grammar.specs.ReadDecl.{global_int_from, read_global_tail, read_global_int, read_global_mutex, read_global_cond};
-ghost use Rattle.c_grammar.specs.ReadFile.{read_globals_tail};
+ghost use Rattle.c_reading.specs.ReadDecl.{global_int_from, read_global_tail, read_global_int, read_global_mutex, read_global_cond};
+ghost use Rattle.c_reading.specs.ReadFile.{read_globals_tail};
 ghost use Rattle.c_raw.specs.Tokens.{ident_view};
 ghost use Rattle.c_raw.specs.Decls.{global_int_view, more_global_ints_view, global_mutex_view, more_global_mutexes_view, global_cond_view, more_global_conds_view};
 ghost use Rattle.c_cursor.specs.Gives.{Gives};

@@ -1,8 +1,8 @@
 //! Heads of functions, and what stands behind them (6.9.1 of ISO/IEC 9899:2011).
 ghost use Rattle.std.specs.Prelude.{◌≡◌, drop, IfOk};
-ghost use Rattle.c_grammar.specs.Reader.{maybe_read};
-ghost use Rattle.c_grammar.specs.Read.{is_name, read_ident, commas};
-ghost use Rattle.c_grammar.specs.ReadFile.{read_param, read_params, head_end_at, head_tail_at, thread_head_at, with_end};
+ghost use Rattle.c_reading.specs.Reader.{maybe_read};
+ghost use Rattle.c_reading.specs.Read.{is_name, read_ident, commas};
+ghost use Rattle.c_reading.specs.ReadFile.{read_param, read_params, head_end_at, head_tail_at, thread_head_at, with_end};
 ghost use Rattle.c_raw.specs.Files.{name_view, param_view, more_params_view, params_view, head_view, top_view};
 ghost use Rattle.c_cursor.specs.Gives.{Gives};
 ghost use Rattle.c_parse.specs.Heads.{next_param_view, next_param, head_end_view, head_tail_view, thread_head_view};

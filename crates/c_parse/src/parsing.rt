@@ -1,12 +1,16 @@
 //! The whole file.
 ghost use Rattle.std.specs.Prelude.{◌≡◌, List, drop, IfOk, IfErr};
-ghost use Rattle.c_grammar.specs.Reader.{many, begins, head};
+ghost use Rattle.c_lex.specs.Lexed.{IsLexed};
+ghost use Rattle.c_grammar.specs.Parsed.{IsParsed};
+ghost use Rattle.c_reading.specs.Reader.{many, begins};
+ghost use Rattle.c_grammar.specs.Marks.{head};
 ghost use Rattle.c_grammar.specs.Token as t;
 ghost use Rattle.c_grammar.specs.File.{File, line_of, is_later};
-ghost use Rattle.c_grammar.specs.ReadFile.{begins_top, top_at, checked};
+ghost use Rattle.c_reading.specs.ReadFile.{begins_top, begins_top_kind, top_at, checked};
 ghost use Rattle.c_raw.specs.Files.{top_view, file_view};
 ghost use Rattle.c_cursor.specs.Gives.{Gives};
-ghost use Rattle.c_parse.specs.Parsed.{tops_view, look_top, Reads, Answers, Parses, FaultIs, IsFileOf, IsTreeOf, IsUnexpected, IsDeep, IsFault, spot_in};
+ghost use Rattle.c_cursor.specs.Seen.{passes};
+ghost use Rattle.c_parse.specs.Parsed.{tops_view, Reads, Answers, Parses, FaultIs, IsFileOf, IsTreeOf, IsUnexpected, IsDeep, IsFault, spot_in};
 
 use crate::fault::ParseFault;
 use crate::top::top_of;
@@ -18,7 +22,7 @@ use cfix_base::List;
 use std::alloc::Global;
 
 fn is_top_look(look: Option<Look>) -> bool
-    ensures { result ≡ look_top look }
+    ensures { result ≡ passes begins_top_kind look }
 {
     matches!(
         look,
@@ -121,6 +125,9 @@ fn read(alloc: Global, tokens: &Tokens) -> Result<Raw, ParseFault>
 /// and takes time linear in the number of tokens.
 pub fn parse(alloc: Global, tokens: &Tokens) -> Result<Raw, ParseFault>
     ensures tree { IfOk result (λ raw. Parses tokens.now raw) }
+
+    // What resolving its names wants, where the tokens are those of a text.
+    ensures parsed { IfOk result (λ raw. IsLexed tokens.now → IsParsed raw.end (file_view raw)) }
     ensures fault { IfErr result (λ e. FaultIs e tokens.now) }
     ensures is_read { (file : File) → IsFileOf tokens.now file → IsTreeOf file result }
     ensures is_unexpected { (rest : List t.Token) → IsUnexpected tokens.now rest → IsFault (ParseFault.Unexpected (spot_in tokens.now rest)) result }

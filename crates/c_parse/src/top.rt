@@ -1,7 +1,7 @@
 //! Declarations and functions of a file.
 ghost use Rattle.std.specs.Prelude.{◌≡◌, drop, IfOk};
 ghost use Rattle.c_grammar.specs.File.{Variables};
-ghost use Rattle.c_grammar.specs.ReadFile.{qualifier_of, heads_allowed, static_of, read_qualifiers, top_at};
+ghost use Rattle.c_reading.specs.ReadFile.{qualifier_of, heads_allowed, static_of, read_qualifiers, top_at};
 ghost use Rattle.c_raw.specs.Tokens.{ident_view};
 ghost use Rattle.c_raw.specs.Decls.{qualifiers_view, globals_view};
 ghost use Rattle.c_raw.specs.Files.{returns_view, top_view};

@@ -9,7 +9,8 @@ use crate::heads::{
     add_global_gap, add_global_lines, add_header, add_prototype_gap, add_prototypes,
 };
 use crate::names::{NameTable, names_of_functions, names_of_globals};
-use c_prog::{Function, Global as Variable, Program, Tree, is_patched};
+use c_patched::is_patched;
+use c_prog::{Function, Global as Variable, Program, Tree};
 use cfix_base::{List, NoMemory};
 use std::alloc::Global;
 

@@ -7,8 +7,6 @@ pub mod Marks
 pub mod Strip
 pub mod Patched
 pub mod Valid
-pub mod Straight
 pub mod Calls
 pub mod Rising
 pub mod Lines
-pub mod SourceCode

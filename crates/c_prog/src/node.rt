@@ -11,11 +11,3 @@ pub enum NodeView<'a> {
     Step(&'a Step),
     Jump { jump: &'a Jump, after: &'a [Op] },
 }
-
-/// What a search for the node with a number gives: the node, or the number without those of the
-/// nodes that were passed.
-#[derive(Clone, Copy)]
-pub enum Found<'a> {
-    Node(NodeView<'a>),
-    Left(u32),
-}

@@ -1,8 +1,6 @@
 ghost use Rattle.std.specs.Prelude.{◌≡◌};
-ghost use Rattle.c_prog.specs.Nodes.{tree_nodes};
 ghost use Rattle.c_prog.specs.Valid.{IsValid};
 
-use crate::nodes::functions_nodes;
 use crate::tree::Tree;
 use std::marker::Model;
 
@@ -44,11 +42,4 @@ impl Program {
     {
         &self.tree
     }
-}
-
-/// How many nodes the program has.
-pub fn node_count(program: &Program) -> u32
-    ensures { result ≡ tree_nodes program.now }
-{
-    functions_nodes(program.tree().functions.as_slice())
 }

@@ -1,18 +1,10 @@
--- What each fault tells, and that what is parsed is a file of the text's tokens.
-use Rattle.std.proofs.Common.{◌≡◌, ℕ, suc, ◌≤◌, true, nat_le, List, [], ◌∷◌, length, get_or, None, map, refl, subst, ap, sym, ◌∙◌, arith}
-use Rattle.std.specs.List.{list_all}
-use Rattle.std.proofs.lemmas.Bool.Decides.{nat_tests}
+-- What each fault tells, and what a text without faults is read as.
+use Rattle.std.proofs.Common.{◌≡◌, ℕ, ◌≤◌, List, [], length, None, refl, ap, sym, ◌∙◌}
 use Rattle.cfix_base.specs.declared.limits.TheConstants.{MAX_SOURCE_BYTES}
 use Rattle.c_lex.specs.declared.fault.LexFault.{LexFault}
 use Rattle.c_lex.specs.declared.fault.LexFault.TheVariants as lex
-use Rattle.c_lex.specs.declared.token.Kind as k
-use Rattle.c_lex.specs.declared.token.Kind.TheVariants as lexed_kind
-use Rattle.c_lex.specs.declared.token.Token as t
 use Rattle.c_lex.specs.Faults.{IsCaused}
 use Rattle.c_lex.specs.Lexed.{Lexed, Lexes}
-use Rattle.c_grammar.specs.File.{file_marks, is_file}
-use Rattle.c_grammar.specs.Verdict.{IsRead}
-use Rattle.c_cursor.specs.Seen.{kind_of, seen}
 use Rattle.c_raw.specs.declared.file.Raw.{Raw}
 use Rattle.c_raw.specs.Files.{file_view}
 use Rattle.c_parse.specs.declared.fault.ParseFault.{ParseFault}
@@ -22,9 +14,7 @@ use Rattle.c_names.specs.declared.fault.Fault.{Fault}
 use Rattle.c_names.specs.declared.fault.FaultKind.TheVariants as kind
 use Rattle.c_names.specs.Faults.{fault, noted_all}
 use Rattle.c_names.specs.Files.{faults_of}
-use Rattle.c_names.specs.Parsed.{IsParsed}
 use Rattle.c_names.specs.Sources.{source_of}
-use Rattle.c_names.specs.Texts.{kind_read, tokens_read}
 use Rattle.c_prog.specs.Lines.{SourceTree}
 use Rattle.c_types.specs.declared.fault.NameFault.{NameFault}
 use Rattle.c_types.specs.declared.fault.NameFault.TheVariants as name
@@ -57,38 +47,6 @@ name_fails faults (name.RootCalled spot) h e = record { fault = fault spot kind.
 name_fails faults (name.Reserved spot) h e = record { fault = fault spot kind.Reserved; is_flaw = refl; least = h; told = e }
 name_fails faults (name.Limit spot) h e = record { fault = fault spot kind.Limit; is_flaw = refl; least = h; told = e }
 
--- ---- the tokens, as the parser and as the definitions of names speak of them
-
-same_kind : (kind : k.Kind) → kind_of kind ≡ kind_read kind
-same_kind (lexed_kind.Name text) = refl
-same_kind (lexed_kind.Word text) = refl
-same_kind (lexed_kind.Number n) = refl
-same_kind (lexed_kind.Quoted bytes) = refl
-same_kind (lexed_kind.Sign text) = refl
-
-pub same_tokens : (tokens : List t.Token) → map seen tokens ≡ tokens_read tokens
-same_tokens [] = refl
-same_tokens (token ∷ more) = rw (same_kind token.kind, same_tokens more) refl
-
--- the items of a text are bytes
-pub bytes_fit : (text : List ℕ) → ((place : ℕ) → get_or text place 0 ≤ 255) → list_all (λ byte. nat_le byte 255) text ≡ true
-bytes_fit [] fits = refl
-bytes_fit (byte ∷ more) fits =
-    let here : byte ≤ 255 = fits 0 in
-    let first : nat_le byte 255 ≡ true = grind (arith, nat_tests) in
-    rw first (bytes_fit more (λ place. fits (suc place)))
-
-pub parsed : (text : List ℕ) (lexed : Lexed) (raw : Raw) → list_all (λ byte. nat_le byte 255) text ≡ true → Lexes text lexed
-    → Parses lexed raw → IsParsed raw.end (file_view raw)
-parsed text lexed raw bytes lexes parses = record {
-  text = text;
-  bytes = bytes;
-  lexed = lexed;
-  lexes = lexes;
-  read = subst (λ tokens. IsRead 200 file_marks is_file tokens (file_view raw)) (same_tokens lexed.tokens) parses.file;
-  ends = parses.end;
-}
-
 -- the source that is made of a file without faults
 pub reads_as : (text : List ℕ) (lexed : Lexed) (raw : Raw) (source : SourceTree) → length text ≤ MAX_SOURCE_BYTES → Lexes text lexed
     → Parses lexed raw → source ≡ source_of (file_view raw) → faults_of raw.end (file_view raw) ≡ [] → Reads text source
@@ -98,7 +56,7 @@ reads_as text lexed raw source within lexes parses made clean = record {
     lexed = lexed;
     lexes = lexes;
     file = file_view raw;
-    read = subst (λ tokens. IsRead 200 file_marks is_file tokens (file_view raw)) (same_tokens lexed.tokens) parses.file;
+    read = parses.file;
     faultless = ap (λ z. faults_of z (file_view raw)) (sym lexes.end ∙ sym parses.end) ∙ clean;
   };
   is_source = made;

@@ -5,19 +5,21 @@ use Rattle.c_lex.specs.Faults.{spot_behind}
 use Rattle.c_lex.specs.Lexed.{Lexed, Lexes}
 use Rattle.c_lex.proofs.Exact.{lexes_once, fault_once, no_fault_lexes}
 use Rattle.c_grammar.specs.File.{File, file_marks, is_file}
-use Rattle.c_grammar.specs.Reader.{Fault, Unexpected, Deep, Out, Got, Stop}
-use Rattle.c_grammar.specs.ReadFile.{read_file}
+use Rattle.c_reading.specs.Reader.{Fault, Unexpected, Deep, Out, Got, Stop}
+use Rattle.c_reading.specs.ReadFile.{read_file}
 use Rattle.c_grammar.specs.Token.{Token}
-use Rattle.c_grammar.specs.Verdict.{IsRead, ReadsExactly}
-use Rattle.c_grammar.proofs.ReadFile.{file_reads_exactly}
+use Rattle.c_grammar.specs.Verdict.{IsRead}
+use Rattle.c_reading.specs.Exact.{ReadsExactly}
+use Rattle.c_reading.proofs.ReadFile.{file_reads_exactly}
 use Rattle.c_parse.specs.declared.fault.ParseFault.{ParseFault}
 use Rattle.c_parse.specs.declared.fault.ParseFault.TheVariants as parse
-use Rattle.c_parse.specs.Parsed.{FaultIs, seen_tokens, spot_in}
+use Rattle.c_parse.specs.Parsed.{FaultIs, spot_in}
 use Rattle.c_names.specs.declared.fault.Fault as f
 use Rattle.c_names.specs.Faults.{noted_all}
 use Rattle.c_names.specs.Files.{faults_of}
 use Rattle.c_names.specs.Sources.{source_of}
-use Rattle.c_names.specs.Texts.{tokens_read, Accepts}
+use Rattle.c_grammar.specs.Lexical.{tokens_read}
+use Rattle.c_names.specs.Texts.{Accepts}
 use Rattle.c_prog.specs.Lines.{SourceTree}
 use Rattle.c_read.specs.declared.flaw.Flaw.{Flaw}
 use Rattle.c_read.specs.declared.flaw.FlawKind.{FlawKind}
@@ -26,7 +28,6 @@ use Rattle.c_read.specs.declared.flaw.ReadFault.{ReadFault}
 use Rattle.c_read.specs.declared.flaw.ReadFault.TheVariants.{NoMemory, Flawed}
 use Rattle.c_read.specs.Flaws.{flaw, token_flaw, grammar_flaw, name_flaw}
 use Rattle.c_read.specs.Reading.{Reads, HasBadToken, BreaksGrammar, HasBadGrammar, HasBadName, IsFlawed, FailsBy}
-use Rattle.c_read.proofs.Fails.{same_tokens}
 
 same_some : {X : Type 0} (o : Option X) (a b : X) → o ≡ Some a → o ≡ Some b → a ≡ b
 same_some o a b p q = cc
@@ -37,7 +38,7 @@ none_some x e = cc
 -- ---- what the grammar's reader answers
 
 abbrev read_all : Lexed → Out Token File
-read_all lexed = read_file 200 (seen_tokens lexed)
+read_all lexed = read_file 200 (tokens_read lexed.tokens)
 
 exact : ReadsExactly 200 file_marks is_file (read_file 200)
 exact = file_reads_exactly 200
@@ -48,8 +49,7 @@ IsFile lexed file = IsRead 200 file_marks is_file (tokens_read lexed.tokens) fil
 
 is_got : (lexed : Lexed) (file : File) → IsFile lexed file → read_all lexed ≡ Got file []
 is_got lexed file h =
-    exact.finds (seen_tokens lexed) file
-    (subst (λ tokens. IsRead 200 file_marks is_file tokens file) (sym (same_tokens lexed.tokens)) h)
+    exact.finds (tokens_read lexed.tokens) file h
 
 abbrev file_from : File → Out Token File → File
 file_from other (Got file rest) = file
@@ -81,13 +81,13 @@ stopped_by lexed w parse.NoMemory is h = absurd (none_some w is)
 stopped_by lexed w (parse.Unexpected spot) is h = record {
   why = Unexpected;
   rest = h.0;
-  stops = exact.stops_unexpected (seen_tokens lexed) h.0 h.1;
+  stops = exact.stops_unexpected (tokens_read lexed.tokens) h.0 h.1;
   is_flaw = some_is (flaw flaw_kind.Unexpected spot) w is ∙ ap (flaw flaw_kind.Unexpected) h.2;
 }
 stopped_by lexed w (parse.Deep spot) is h = record {
   why = Deep;
   rest = h.0;
-  stops = exact.stops_deep (seen_tokens lexed) h.0 h.1;
+  stops = exact.stops_deep (tokens_read lexed.tokens) h.0 h.1;
   is_flaw = some_is (flaw flaw_kind.Deep spot) w is ∙ ap (flaw flaw_kind.Deep) h.2;
 }
 

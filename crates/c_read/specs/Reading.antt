@@ -12,7 +12,8 @@ use Rattle.c_names.specs.declared.fault.Fault.{Fault}
 use Rattle.c_names.specs.Faults.{IsLeast, noted_all}
 use Rattle.c_names.specs.Files.{faults_of}
 use Rattle.c_names.specs.Sources.{source_of}
-use Rattle.c_names.specs.Texts.{tokens_read, Accepts}
+use Rattle.c_grammar.specs.Lexical.{tokens_read}
+use Rattle.c_names.specs.Texts.{Accepts}
 use Rattle.c_prog.specs.Lines.{SourceTree}
 use Rattle.c_read.specs.declared.flaw.Flaw.{Flaw}
 use Rattle.c_read.specs.declared.flaw.ReadFault.{ReadFault}

@@ -1,7 +1,7 @@
 ghost use Rattle.std.specs.Prelude.{◌≡◌, ◌≤◌, ◌⊎◌, length, [], Ok, Err, IfOk, OnOk, IfErr};
 ghost use Rattle.cfix_base.specs.declared.limits.TheConstants.{MAX_SOURCE_BYTES};
-ghost use Rattle.c_lex.specs.Lexed.{Lexes};
-ghost use Rattle.c_names.specs.Parsed.{IsParsed};
+ghost use Rattle.c_lex.specs.Lexed.{Lexes, IsLexed};
+ghost use Rattle.c_grammar.specs.Parsed.{IsParsed};
 ghost use Rattle.c_names.specs.Files.{faults_of};
 ghost use Rattle.c_names.specs.Sources.{source_of};
 ghost use Rattle.c_parse.specs.Parsed.{Parses};
@@ -13,14 +13,15 @@ ghost use Rattle.c_read.specs.Reading.{Reads, HasBadToken, BreaksGrammar, Breaks
 use crate::flaw::{ReadFault, grammar_answer, name_answer, token_answer};
 use c_lex::{Tokens, lex};
 use c_parse::parse;
-use c_prog::Source;
 use c_raw::Raw;
+use c_source::Source;
 use c_types::resolve;
 use std::alloc::Global;
 
 fn tokens_of(alloc: Global, text: &[u8]) -> Result<Tokens, ReadFault>
     requires { length text.now ≤ MAX_SOURCE_BYTES }
     ensures read { IfOk result (Lexes text.now) }
+    ensures lexed { IfOk result (λ tokens. IsLexed tokens) }
     ensures flawed { IfErr result (FailsBy (HasBadToken text.now)) }
 {
     match lex(alloc, text) {
@@ -30,7 +31,9 @@ fn tokens_of(alloc: Global, text: &[u8]) -> Result<Tokens, ReadFault>
 }
 
 fn tree_of(alloc: Global, tokens: &Tokens) -> Result<Raw, ReadFault>
+    requires { IsLexed tokens.now }
     ensures read { IfOk result (λ raw. Parses tokens.now raw) }
+    ensures parsed { IfOk result (λ raw. IsParsed raw.end (file_view raw)) }
     ensures flawed { IfErr result (FailsBy (BreaksGrammar tokens.now)) }
 {
     match parse(alloc, tokens) {

@@ -4,13 +4,13 @@ use Rattle.cfix_base.specs.declared.Spot.{Spot}
 use Rattle.c_grammar.specs.declared.word.Word.TheVariants as w
 use Rattle.c_grammar.specs.declared.sign.Sign.TheVariants as s
 use Rattle.c_grammar.specs.Token.{Token}
-use Rattle.c_grammar.specs.Reader.{Out, seq, map_out, alt, begins}
-use Rattle.c_grammar.specs.Read.{is_word, is_sign, read_word, read_sign, listed}
-use Rattle.c_grammar.specs.ReadOp.{is_verb, read_ops}
-use Rattle.c_grammar.specs.ReadSimple.{value_at}
-use Rattle.c_grammar.specs.ReadDecl.{local_at}
+use Rattle.c_reading.specs.Reader.{Out, seq, map_out, alt, begins}
+use Rattle.c_reading.specs.Read.{is_word, is_sign, read_word, read_sign, listed}
+use Rattle.c_reading.specs.ReadOp.{is_verb, read_ops}
+use Rattle.c_reading.specs.ReadSimple.{value_at}
+use Rattle.c_reading.specs.ReadDecl.{local_at}
 use Rattle.c_grammar.specs.Stmt.{Stmt, Jumps, Items}
-use Rattle.c_grammar.specs.ReadStmt.{read_semicolon, ValueBlockParts, IntsBlockParts, OtherItem, InBraces, brace_from, brace_with, read_bare_block, value_block_at, ints_block_with, other_item_from, other_item_with, items_with, stmt_at}
+use Rattle.c_reading.specs.ReadStmt.{read_semicolon, ValueBlockParts, IntsBlockParts, OtherItem, InBraces, brace_from, brace_with, read_bare_block, value_block_at, ints_block_with, other_item_from, other_item_with, items_with, stmt_at}
 use Rattle.c_stmt.specs.Jumps.{bare_block, bare_block_from, value_block, value_parts, set_value_at, return_value, value_block_from}
 use Rattle.c_stmt.specs.Stmts.{items_at, other_item_at, int_item, int_item_at, ints_block_from, int_block_from, items_block, block_from, inside_from, brace_at}
 use Rattle.c_stmt.proofs.Outs.{map_map, next_same, either_same, seq_is, seq_mapped, alt_is, three_then, four_then}

@@ -5,15 +5,15 @@ use Rattle.c_grammar.specs.declared.word.Word.TheVariants as w
 use Rattle.c_grammar.specs.declared.sign.Sign.{Sign}
 use Rattle.c_grammar.specs.declared.sign.Sign.TheVariants as s
 use Rattle.c_grammar.specs.Token.{Kind, IsSign, Token, sign, Numeral}
-use Rattle.c_grammar.specs.Reader.{Fault, Unexpected, Deep, Out, Got, Stop, next, one_of, one_at, seq, seq_dep, map_out, mapped, alt, either, begins, shut, maybe_read}
-use Rattle.c_grammar.specs.Read.{is_word, is_sign, is_sign_kind, is_name, is_number, read_sign, read_numeral}
-use Rattle.c_grammar.specs.ReadOp.{is_verb}
+use Rattle.c_reading.specs.Reader.{Fault, Unexpected, Deep, Out, Got, Stop, next, one_of, one_at, seq, seq_dep, map_out, mapped, alt, either, begins, shut, maybe_read}
+use Rattle.c_reading.specs.Read.{is_word, is_sign, is_sign_kind, is_name, is_number, read_sign, read_numeral}
+use Rattle.c_reading.specs.ReadOp.{is_verb}
 use Rattle.c_grammar.specs.Expr.{Prefix, Expr, Paren, Binary}
 use Rattle.c_grammar.specs.Cond as g
-use Rattle.c_grammar.specs.ReadSimple.{is_paren}
-use Rattle.c_grammar.specs.ReadExpr.{is_prefix, is_binary, binary_of, operators, Link, group, links_with, NameParts, Parenthesised, Operand, name_from, paren_from, operand_from, operand_with, inside_with, read_cast, unary_at, expr_at, prefix_at, index_at, paren_at}
-use Rattle.c_grammar.specs.ReadCond.{read_guard, Guarded, guard_digit, SecondTail, second_from, second_tail_at, read_name_at, second_at, second_links_at, FirstLink, first_link_at, Tail, tail_from, tail_at, is_par, inner_at, HeadTail, head_tail_at, CondHead, cond_head_from, cond_head_at, cond_tail_at, guarded_at, or_tail_at, or_from, guard_operators, cond_at}
-use Rattle.c_grammar.specs.ReadCond as read
+use Rattle.c_reading.specs.ReadSimple.{is_paren}
+use Rattle.c_reading.specs.ReadExpr.{is_prefix, is_binary, binary_of, operators, Link, group, links_with, NameParts, Parenthesised, Operand, name_from, paren_from, operand_from, operand_with, inside_with, read_cast, unary_at, expr_at, prefix_at, index_at, paren_at}
+use Rattle.c_reading.specs.ReadCond.{read_guard, Guarded, guard_digit, SecondTail, second_from, second_tail_at, read_name_at, second_at, second_links_at, FirstLink, first_link_at, Tail, tail_from, tail_at, is_par, inner_at, HeadTail, head_tail_at, CondHead, cond_head_from, cond_head_at, cond_tail_at, guarded_at, or_tail_at, or_from, guard_operators, cond_at}
+use Rattle.c_reading.specs.ReadCond as read
 use Rattle.c_stmt.specs.Conds.{plain_second, paren_second, ContinuedParts, continued_from, continued_at, behind_second, link_at, plain_inner, inner_from, inner_behind, paren_inner, plain_cond, cond_from, test_cond, both_cond, cond_behind, paren_cond, or_guard}
 use Rattle.c_stmt.proofs.Outs.{map_map, map_same, next_same, next_map, next_next, either_same, seq_is, dep_is, alt_is}
 
@@ -183,8 +183,8 @@ module _ (top : Bool) (d : ℕ) (before : Spot) (e : Expr) (after : Spot) (ts : 
 
   linked_suc : (k : ℕ) → begins is_binary ts ≡ true → continued_at top d before e after (suc k) ts ≡ next (one_of binary_of ts) (link_at top d before e after k)
   unfolding continued_at
-  linked_suc k h = map_map (continued_from before e after) tail_from (alt is_binary (first_link_at top d (suc k)) Rattle.c_grammar.specs.Reader.nothing ts)
-      ∙ alt_is (λ x. continued_from before e after (tail_from x)) is_binary (first_link_at top d (suc k)) Rattle.c_grammar.specs.Reader.nothing ts
+  linked_suc k h = map_map (continued_from before e after) tail_from (alt is_binary (first_link_at top d (suc k)) Rattle.c_reading.specs.Reader.nothing ts)
+      ∙ alt_is (λ x. continued_from before e after (tail_from x)) is_binary (first_link_at top d (suc k)) Rattle.c_reading.specs.Reader.nothing ts
       ∙ ((let z : either (begins is_binary ts) (map_out of_link (first_link_at top d (suc k) ts)) (Got (inl (Paren before e after)) ts) ≡ map_out of_link (first_link_at top d (suc k) ts) = rw h refl in z) ∙ linked_is k)
 
   pub continued_link : (n : ℕ) → n ≢ 0 → begins is_binary ts ≡ true → continued_at top d before e after n ts ≡ next (one_of binary_of ts) (link_at top d before e after (n - 1))

@@ -1,7 +1,7 @@
 -- A loop that reads items while one begins, at most as many as there are tokens.
 use Rattle.std.proofs.Common.{◌≡◌, ℕ, zero, suc, ◌+◌, ◌-◌, ◌<◌, Bool, true, false, List, [], ◌∷◌, ◌++◌, refl, sym, ap, ◌∙◌, append_assoc, arith, inl}
 use Rattle.std.proofs.lemmas.List.{append-nil}
-use Rattle.c_grammar.specs.Reader.{Fault, Out, Got, Stop, next, map_out, glue, begins, size, many, many_by}
+use Rattle.c_reading.specs.Reader.{Fault, Out, Got, Stop, next, map_out, glue, begins, size, many, many_by}
 
 abbrev pub with_front : {T A : Type 0} → List A → Out T (List A) → Out T (List A)
 with_front front o = next o (λ more r. Got (front ++ more) r)

@@ -1,6 +1,6 @@
 -- Laws of what readers answer: a value or a fault goes through what is done with it.
 use Rattle.std.proofs.Common.{◌≡◌, Bool, true, false, List, refl, ap, ◌∙◌, inl, inr, ◌⊎◌}
-use Rattle.c_grammar.specs.Reader.{Out, Got, Stop, next, seq, seq_dep, map_out, mapped, begins, either, alt}
+use Rattle.c_reading.specs.Reader.{Out, Got, Stop, next, seq, seq_dep, map_out, mapped, begins, either, alt}
 
 pub map_map : {T A B C : Type 0} (f : B → C) (g : A → B) (o : Out T A) → map_out f (map_out g o) ≡ map_out (λ x. f (g x)) o
 map_map f g (Got a r) = refl

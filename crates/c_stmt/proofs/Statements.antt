@@ -4,13 +4,13 @@ use Rattle.cfix_base.specs.declared.Spot.{Spot}
 use Rattle.c_grammar.specs.declared.word.Word.TheVariants as w
 use Rattle.c_grammar.specs.declared.sign.Sign.TheVariants as s
 use Rattle.c_grammar.specs.Token.{Token}
-use Rattle.c_grammar.specs.Reader.{Out, Stop, Deep, seq, map_out, alt, either, begins, shut}
-use Rattle.c_grammar.specs.Read.{is_word, is_sign, read_word, read_sign}
-use Rattle.c_grammar.specs.ReadOp.{read_ops}
-use Rattle.c_grammar.specs.ReadSimple.{simple_at}
-use Rattle.c_grammar.specs.ReadCond.{cond_at}
+use Rattle.c_reading.specs.Reader.{Out, Stop, Deep, seq, map_out, alt, either, begins, shut}
+use Rattle.c_reading.specs.Read.{is_word, is_sign, read_word, read_sign}
+use Rattle.c_reading.specs.ReadOp.{read_ops}
+use Rattle.c_reading.specs.ReadSimple.{simple_at}
+use Rattle.c_reading.specs.ReadCond.{cond_at}
 use Rattle.c_grammar.specs.Stmt.{Stmt, Nothing, Jumps}
-use Rattle.c_grammar.specs.ReadStmt.{is_semicolon, read_semicolon, BraceParts, IfParts, WhileParts, ForParts, JumpParts, SimplyParts, brace_from, brace_with, if_from, if_with, while_from, while_with, for_from, for_with, else_tail_with, jump_from, jump_parts_at, begins_jump, stmt_from, stmt_with, stmt_at}
+use Rattle.c_reading.specs.ReadStmt.{is_semicolon, read_semicolon, BraceParts, IfParts, WhileParts, ForParts, JumpParts, SimplyParts, brace_from, brace_with, if_from, if_with, while_from, while_with, for_from, for_with, else_tail_with, jump_from, jump_parts_at, begins_jump, stmt_from, stmt_with, stmt_at}
 use Rattle.c_stmt.specs.Jumps.{jump_at}
 use Rattle.c_stmt.specs.Stmts.{brace_at, if_at, while_at, for_at, simply_at, flat_at}
 use Rattle.c_stmt.proofs.Outs.{map_map, either_same, alt_is, four_then}

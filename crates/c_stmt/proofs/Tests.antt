@@ -4,13 +4,14 @@ use Rattle.cfix_base.specs.declared.Spot.{Spot}
 use Rattle.c_grammar.specs.declared.word.Word.TheVariants as w
 use Rattle.c_grammar.specs.declared.sign.Sign.TheVariants as s
 use Rattle.c_grammar.specs.Token.{Kind, IsName, IsWord, IsSign, Token}
-use Rattle.c_grammar.specs.Reader.{begins}
-use Rattle.c_grammar.specs.Read.{is_word_kind, is_name_kind}
-use Rattle.c_grammar.specs.ReadExpr.{is_some}
-use Rattle.c_grammar.specs.ReadSimple.{step_in}
-use Rattle.c_grammar.specs.ReadStmt.{begins_plain, begins_first, begins_item, begins_item_kind, begins_decl, begins_jump}
-use Rattle.c_cursor.specs.Seen.{look_of, look_at}
-use Rattle.c_stmt.specs.Tests.{look_plain, look_first, look_item, look_decl, look_jump}
+use Rattle.c_reading.specs.Reader.{begins}
+use Rattle.c_reading.specs.Read.{is_word_kind, is_name_kind}
+use Rattle.c_reading.specs.ReadExpr.{is_some}
+use Rattle.c_reading.specs.ReadSimple.{step_in}
+use Rattle.c_reading.specs.ReadStmt.{begins_plain, begins_first, begins_item, begins_item_kind, begins_decl, begins_jump}
+use Rattle.c_cursor.specs.Seen.{look_of, look_at, bare_kind, passes}
+use Rattle.c_cursor.proofs.Looks.{passes-begins}
+use Rattle.c_stmt.specs.Tests.{look_plain, look_first, look_decl, look_jump}
 
 plain_kind : (k : Kind) (at : Spot) → look_plain (Some (look_of k)) ≡ is_name_kind k || is_some (step_in k at)
 plain_kind (IsName x) at = refl
@@ -31,9 +32,8 @@ jump_kind : (k : Kind) → look_jump (Some (look_of k)) ≡ is_word_kind w.Break
 jump_kind (IsWord w.Break) = refl
 jump_kind k = refl
 
-item_kind : (k : Kind) → look_item (Some (look_of k)) ≡ begins_item_kind k
-item_kind (IsWord w.Break) = refl
-item_kind (IsSign s.OpenBrace) = refl
+item_kind : (k : Kind) → begins_item_kind (bare_kind (look_of k)) ≡ begins_item_kind k
+item_kind (IsName x) = refl
 item_kind k = refl
 
 pub plain_is : (ts : List Token) → look_plain (look_at ts) ≡ begins begins_plain ts
@@ -52,6 +52,5 @@ pub jump_is : (ts : List Token) → look_jump (look_at ts) ≡ begins begins_jum
 jump_is [] = refl
 jump_is (t ∷ ts) = jump_kind t.kind
 
-pub item_is : (ts : List Token) → look_item (look_at ts) ≡ begins begins_item ts
-item_is [] = refl
-item_is (t ∷ ts) = item_kind t.kind
+pub item_is : (ts : List Token) → passes begins_item_kind (look_at ts) ≡ begins begins_item ts
+item_is = passes-begins begins_item_kind item_kind

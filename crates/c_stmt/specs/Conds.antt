@@ -6,14 +6,14 @@ use Rattle.cfix_base.specs.declared.Spot.{Spot}
 use Rattle.c_grammar.specs.declared.word.Word.TheVariants as w
 use Rattle.c_grammar.specs.declared.sign.Sign.TheVariants as s
 use Rattle.c_grammar.specs.Token.{Token}
-use Rattle.c_grammar.specs.Reader.{Out, Got, next, seq, map_out, mapped, begins, either}
-use Rattle.c_grammar.specs.Read.{is_word, read_sign}
-use Rattle.c_grammar.specs.ReadOp.{is_verb, read_op}
+use Rattle.c_reading.specs.Reader.{Out, Got, next, seq, map_out, mapped, begins, either}
+use Rattle.c_reading.specs.Read.{is_word, read_sign}
+use Rattle.c_reading.specs.ReadOp.{is_verb, read_op}
 use Rattle.c_grammar.specs.Expr as e
 use Rattle.c_grammar.specs.Op as o
 use Rattle.c_grammar.specs.Cond as g
-use Rattle.c_grammar.specs.ReadExpr.{operators, Link, group, links_with, unary_at, expr_at}
-use Rattle.c_grammar.specs.ReadCond.{is_number_of, read_guard, Guarded, guard_digit, second_at, Tail, tail_at, inner_at, or_tail_at, guard_operators, guard_cond}
+use Rattle.c_reading.specs.ReadExpr.{operators, Link, group, links_with, unary_at, expr_at}
+use Rattle.c_reading.specs.ReadCond.{is_number_of, read_guard, Guarded, guard_digit, second_at, Tail, tail_at, inner_at, or_tail_at, guard_operators, guard_cond}
 use Rattle.c_raw.specs.declared.op.Op.{Op}
 use Rattle.c_raw.specs.Ops.{op_view}
 use Rattle.c_raw.specs.Exprs.{expr_view, binary_view}

@@ -3,10 +3,10 @@ use Rattle.std.specs.Prelude.{ℕ, List}
 use Rattle.cfix_base.specs.declared.Spot.{Spot}
 use Rattle.c_grammar.specs.declared.sign.Sign.TheVariants as s
 use Rattle.c_grammar.specs.Token.{Token}
-use Rattle.c_grammar.specs.Reader.{Out, seq}
-use Rattle.c_grammar.specs.Read.{read_sign}
+use Rattle.c_reading.specs.Reader.{Out, seq}
+use Rattle.c_reading.specs.Read.{read_sign}
 use Rattle.c_grammar.specs.Decl as g
-use Rattle.c_grammar.specs.ReadDecl as read
+use Rattle.c_reading.specs.ReadDecl as read
 use Rattle.c_raw.specs.declared.decl.Hold.{Hold}
 use Rattle.c_raw.specs.declared.decl.LocalInt.{LocalInt}
 use Rattle.c_raw.specs.declared.decl.LoopInt.{LoopInt}

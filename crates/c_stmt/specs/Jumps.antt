@@ -5,18 +5,18 @@ use Rattle.cfix_base.specs.declared.Spot.{Spot}
 use Rattle.c_grammar.specs.declared.word.Word.TheVariants as w
 use Rattle.c_grammar.specs.declared.sign.Sign.TheVariants as s
 use Rattle.c_grammar.specs.Token.{Token}
-use Rattle.c_grammar.specs.Reader.{Out, seq, mapped, alt}
+use Rattle.c_reading.specs.Reader.{Out, seq, mapped, alt}
 use Rattle.c_grammar.specs.Op as o
 use Rattle.c_grammar.specs.Simple.{Value}
 use Rattle.c_grammar.specs.Stmt.{Jump, BareBlock, ValueBlock}
-use Rattle.c_grammar.specs.Read.{is_word, read_word, read_sign}
-use Rattle.c_grammar.specs.ReadOp.{read_op, read_ops}
-use Rattle.c_grammar.specs.ReadSimple.{value_at}
+use Rattle.c_reading.specs.Read.{is_word, read_word, read_sign}
+use Rattle.c_reading.specs.ReadOp.{read_op, read_ops}
+use Rattle.c_reading.specs.ReadSimple.{value_at}
 use Rattle.c_raw.specs.Ops.{op_view, ops_view}
 use Rattle.c_raw.specs.Simples.{value_view}
 use Rattle.c_stmt.specs.declared.jump.SetValue.{SetValue}
 use Rattle.c_stmt.specs.declared.jump.ReturnValue.{ReturnValue}
-use Rattle.c_grammar.specs.ReadStmt.{is_semicolon, read_semicolon, jump_from, jump_parts_at, BareBlockParts, ValueBlockParts, read_bare_block}
+use Rattle.c_reading.specs.ReadStmt.{is_semicolon, read_semicolon, jump_from, jump_parts_at, BareBlockParts, ValueBlockParts, read_bare_block}
 
 unfoldable pub jump_at : (d : ℕ) → List Token → Out Token Jump
 jump_at d = mapped jump_from (jump_parts_at 200 d)

@@ -6,18 +6,18 @@ use Rattle.c_grammar.specs.declared.word.Word.{Word}
 use Rattle.c_grammar.specs.declared.word.Word.TheVariants as w
 use Rattle.c_grammar.specs.declared.sign.Sign.TheVariants as s
 use Rattle.c_grammar.specs.Token.{Token}
-use Rattle.c_grammar.specs.Reader.{Out, next, seq, map_out, mapped, begins, either}
-use Rattle.c_grammar.specs.Read.{is_word, is_sign, read_word, read_sign, listed}
-use Rattle.c_grammar.specs.ReadOp.{is_verb, read_ops}
-use Rattle.c_grammar.specs.ReadSimple.{simple_at}
-use Rattle.c_grammar.specs.ReadDecl.{local_at}
-use Rattle.c_grammar.specs.ReadCond.{cond_at}
+use Rattle.c_reading.specs.Reader.{Out, next, seq, map_out, mapped, begins, either}
+use Rattle.c_reading.specs.Read.{is_word, is_sign, read_word, read_sign, listed}
+use Rattle.c_reading.specs.ReadOp.{is_verb, read_ops}
+use Rattle.c_reading.specs.ReadSimple.{simple_at}
+use Rattle.c_reading.specs.ReadDecl.{local_at}
+use Rattle.c_reading.specs.ReadCond.{cond_at}
 use Rattle.c_grammar.specs.Cond.{Cond}
 use Rattle.c_grammar.specs.Decl as g
 use Rattle.c_grammar.specs.Decl.{Ints}
 use Rattle.c_grammar.specs.Op.{Ops}
 use Rattle.c_grammar.specs.Stmt.{Stmt, Block, Nothing, Simply, Jumps, NoItems, AndItem, Items, Item, Declares}
-use Rattle.c_grammar.specs.ReadStmt.{is_semicolon, read_semicolon, begins_jump, item_with, items_with, other_item_from, other_item_with, ElseParts, else_tail_with, IfParts, if_from, WhileParts, while_from, for_from, for_with, SimplyParts, stmt_at}
+use Rattle.c_reading.specs.ReadStmt.{is_semicolon, read_semicolon, begins_jump, item_with, items_with, other_item_from, other_item_with, ElseParts, else_tail_with, IfParts, if_from, WhileParts, while_from, for_from, for_with, SimplyParts, stmt_at}
 use Rattle.c_raw.specs.declared.stmt.Test.{Test}
 use Rattle.c_raw.specs.Conds.{cond_view}
 use Rattle.c_stmt.specs.Jumps.{jump_at, bare_block_from, value_block_from}

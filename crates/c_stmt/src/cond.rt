@@ -2,8 +2,8 @@
 ghost use Rattle.std.specs.Prelude.{◌≡◌, ◌≢◌, ◌-◌, drop, IfOk};
 ghost use Rattle.std.proofs.Common.{inr};
 ghost use Rattle.c_grammar.specs.Expr.{Operation, Paren};
-ghost use Rattle.c_grammar.specs.ReadExpr.{operators};
-ghost use Rattle.c_grammar.specs.ReadCond.{guard_digit, second_at, inner_at, or_tail_at, guard_cond, cond_at};
+ghost use Rattle.c_reading.specs.ReadExpr.{operators};
+ghost use Rattle.c_reading.specs.ReadCond.{guard_digit, second_at, inner_at, or_tail_at, guard_cond, cond_at};
 ghost use Rattle.c_raw.specs.Exprs.{binary_view, expr_view};
 ghost use Rattle.c_raw.specs.Conds.{true_guard_view, cond_view};
 ghost use Rattle.c_cursor.specs.Gives.{Gives};

@@ -1,7 +1,7 @@
 //! Declarations (6.7 of ISO/IEC 9899:2011).
 ghost use Rattle.std.specs.Prelude.{drop};
-ghost use Rattle.c_grammar.specs.Read.{commas, listed};
-ghost use Rattle.c_grammar.specs.ReadDecl.{read_size, read_length, read_hold, local_at, decl_at, loop_int_at};
+ghost use Rattle.c_reading.specs.Read.{commas, listed};
+ghost use Rattle.c_reading.specs.ReadDecl.{read_size, read_length, read_hold, local_at, decl_at, loop_int_at};
 ghost use Rattle.c_raw.specs.Decls.{size_view, hold_view, more_holds_view, local_int_view, more_local_ints_view, decl_view, loop_int_view, more_loop_ints_view};
 ghost use Rattle.c_cursor.specs.Gives.{Gives};
 ghost use Rattle.c_stmt.specs.Decls.{length_view, locals_view, next_hold_view, next_local_view, next_loop_int_view, next_hold, next_local, next_loop_int};
@@ -114,7 +114,7 @@ pub fn more_holds_of(
 }
 
 /// A local declarator of type `int`.
-#[tactic(auto, unfolding(c_grammar::specs::ReadDecl::local_at))]
+#[tactic(auto, unfolding(c_reading::specs::ReadDecl::local_at))]
 fn local_of(
     cursor: &Cursor<'_>,
     alloc: Global,
@@ -212,7 +212,7 @@ pub(crate) fn locals_of(
 }
 
 /// A declaration of local variables, without its semicolon.
-#[tactic(auto, unfolding(c_grammar::specs::ReadDecl::decl_at))]
+#[tactic(auto, unfolding(c_reading::specs::ReadDecl::decl_at))]
 fn decl_of(
     cursor: &Cursor<'_>,
     alloc: Global,
@@ -261,7 +261,7 @@ pub(crate) fn boxed_decl_of(
 }
 
 /// A declarator in the first part of a `for`.
-#[tactic(auto, unfolding(c_grammar::specs::ReadDecl::loop_int_at))]
+#[tactic(auto, unfolding(c_reading::specs::ReadDecl::loop_int_at))]
 pub(crate) fn loop_int_of(
     cursor: &Cursor<'_>,
     alloc: Global,

@@ -1,6 +1,6 @@
 //! Statements with no other statement in them.
 ghost use Rattle.std.specs.Prelude.{◌≡◌, IfOk, drop};
-ghost use Rattle.c_grammar.specs.ReadSimple.{simple_at};
+ghost use Rattle.c_reading.specs.ReadSimple.{simple_at};
 ghost use Rattle.c_grammar.specs.Stmt.{Jumps};
 ghost use Rattle.c_raw.specs.Simples.{simple_view};
 ghost use Rattle.c_raw.specs.Stmts.{stmt_view, jump_view};

@@ -1,8 +1,8 @@
 //! Guards: the operations in a condition.
 ghost use Rattle.std.specs.Prelude.{◌≡◌, drop};
-ghost use Rattle.c_grammar.specs.Reader.{one_of, many};
-ghost use Rattle.c_grammar.specs.ReadOp.{is_verb};
-ghost use Rattle.c_grammar.specs.ReadCond.{is_number_of, at_digit, read_guard};
+ghost use Rattle.c_reading.specs.Reader.{one_of, many};
+ghost use Rattle.c_reading.specs.ReadOp.{is_verb};
+ghost use Rattle.c_reading.specs.ReadCond.{is_number_of, at_digit, read_guard};
 ghost use Rattle.c_raw.specs.Conds.{guard_view};
 ghost use Rattle.c_raw.specs.Ops.{op_view, ops_view};
 ghost use Rattle.c_cursor.specs.Gives.{Gives};

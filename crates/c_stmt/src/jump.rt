@@ -1,7 +1,7 @@
 //! Jumps (6.8.6 of ISO/IEC 9899:2011).
 ghost use Rattle.std.specs.Prelude.{drop};
 ghost use Rattle.c_raw.specs.Stmts.{bare_view, bare_block_view, value_block_view, jump_view};
-ghost use Rattle.c_grammar.specs.ReadStmt.{read_bare};
+ghost use Rattle.c_reading.specs.ReadStmt.{read_bare};
 ghost use Rattle.c_cursor.specs.Gives.{Gives};
 ghost use Rattle.c_stmt.specs.Jumps.{jump_at, return_from, bare_block_from, set_value_view, set_value_at, return_value_view, return_value, value_block_from};
 

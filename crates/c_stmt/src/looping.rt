@@ -1,6 +1,6 @@
 //! The parts of a `for` (6.8.5.3 of ISO/IEC 9899:2011).
 ghost use Rattle.std.specs.Prelude.{drop};
-ghost use Rattle.c_grammar.specs.ReadStmt.{first_at, loop_step_at};
+ghost use Rattle.c_reading.specs.ReadStmt.{first_at, loop_step_at};
 ghost use Rattle.c_raw.specs.Stmts.{first_view, loop_step_view, first_part_view, cond_part_view, step_part_view};
 ghost use Rattle.c_cursor.specs.Gives.{Gives};
 ghost use Rattle.c_stmt.specs.Loops.{first_part_at, cond_part_at, step_part_at};

@@ -1,6 +1,6 @@
 //! Statements (6.8 of ISO/IEC 9899:2011).
 ghost use Rattle.std.specs.Prelude.{drop};
-ghost use Rattle.c_grammar.specs.ReadStmt.{stmt_at};
+ghost use Rattle.c_reading.specs.ReadStmt.{stmt_at};
 ghost use Rattle.c_raw.specs.Stmts.{stmt_view};
 ghost use Rattle.c_cursor.specs.Gives.{Gives};
 ghost use Rattle.c_stmt.specs.Stmts.{test_view, test_at, if_at, while_at, for_at};

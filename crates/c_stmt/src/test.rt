@@ -1,8 +1,9 @@
 //! What a part begins with.
 ghost use Rattle.std.specs.Prelude.{◌≡◌, drop};
-ghost use Rattle.c_grammar.specs.Reader.{begins};
-ghost use Rattle.c_grammar.specs.ReadStmt.{begins_plain, begins_first, begins_item, begins_decl, begins_jump};
-ghost use Rattle.c_stmt.specs.Tests.{look_plain, look_first, word_item, sign_item, look_item, look_decl, look_jump};
+ghost use Rattle.c_reading.specs.Reader.{begins};
+ghost use Rattle.c_reading.specs.ReadStmt.{begins_plain, begins_first, begins_item, begins_item_kind, begins_item_word, begins_item_sign, begins_decl, begins_jump};
+ghost use Rattle.c_cursor.specs.Seen.{passes};
+ghost use Rattle.c_stmt.specs.Tests.{look_plain, look_first, look_decl, look_jump};
 
 use c_cursor::{Cursor, Look};
 use c_grammar::{Sign, Word};
@@ -41,7 +42,7 @@ fn is_jump_look(look: Option<Look>) -> bool
 }
 
 fn is_item_word(word: Word) -> bool
-    ensures { result ≡ word_item word }
+    ensures { result ≡ begins_item_word word }
 {
     matches!(
         word,
@@ -66,7 +67,7 @@ fn is_item_word(word: Word) -> bool
 }
 
 fn is_item_sign(sign: Sign) -> bool
-    ensures { result ≡ sign_item sign }
+    ensures { result ≡ begins_item_sign sign }
 {
     matches!(
         sign,
@@ -75,7 +76,7 @@ fn is_item_sign(sign: Sign) -> bool
 }
 
 fn is_item_look(look: Option<Look>) -> bool
-    ensures { result ≡ look_item look }
+    ensures { result ≡ passes begins_item_kind look }
 {
     match look {
         Some(Look::Name) => true,

@@ -2,7 +2,7 @@
 use Rattle.std.proofs.Common.{◌≡◌, ℕ, ◌≤◌, ◌<◌, ◌^◌, suc, List, [], ◌∷◌, ◌++◌, map, length, Option, Some, None, ◌∙◌, arith}
 use Rattle.std.proofs.lemmas.List.{length-append, length-map}
 use Rattle.cfix_base.specs.declared.Spot.{Spot}
-use Rattle.c_grammar.specs.Reader.{each, maybe}
+use Rattle.c_grammar.specs.Marks.{each, maybe}
 use Rattle.c_grammar.specs.Token.{Mark, ident, word, sign}
 use Rattle.c_grammar.specs.declared.word.Word.TheVariants as w
 use Rattle.c_grammar.specs.declared.sign.Sign.TheVariants as s
@@ -12,10 +12,10 @@ use Rattle.c_grammar.specs.Decl.{Hold, OneThread, Threads, LocalInt, OneLocal, S
 use Rattle.c_grammar.specs.Stmt.{First, FirstInts, FirstPlain, Stmt, Block, Nothing, Simply, Jumps, If, While, For, Else, NoElse, ElseDo, Items, NoItems, AndItem, Item, Declares, Does, first_marks, loop_step_marks, stmt_marks, else_marks, items_marks, item_marks}
 use Rattle.c_grammar.specs.File.{return_word, Param, ParamOf, Params, NoParams, VoidParams, SomeParams, Head, PlainHead, ThreadHead, Top, Include, Define, Variables, Prototype, Function, File, param_marks, params_marks, name_marks, static_marks, head_marks, top_marks, file_marks}
 use Rattle.c_names.specs.Declarations.{global_int_variable, hold_variable, mutex_variable, cond_variable, variables, param_of, params_of, head_params}
-use Rattle.c_names.specs.Parsed.{IsParsed}
+use Rattle.c_grammar.specs.Parsed.{IsParsed}
 use Rattle.c_names.specs.Scopes.{local_int_declared, hold_declared, loop_int_declared, decl_declared, first_declared, stmt_locals, else_locals, items_locals, item_locals}
 use Rattle.valid_law.proofs.Tokens.{tokens-few}
-use Rattle.c_types.specs.Counting.{top_count, file_count}
+use Rattle.c_declare.specs.Counting.{top_count, file_count}
 
 -- as many items as commas
 longer : {A : Type 0} (h : Spot × A → List Mark) → ((y : Spot × A) → 1 ≤ length (h y)) → (more : List (Spot × A)) → length more ≤ length (each h more)

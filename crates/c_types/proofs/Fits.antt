@@ -15,7 +15,7 @@ use Rattle.c_lex.specs.declared.fault.Refusal.TheVariants.{BadNumber}
 use Rattle.c_grammar.specs.declared.word.Word.{Word}
 use Rattle.c_grammar.specs.declared.sign.Sign.{Sign}
 use Rattle.c_grammar.specs.declared.sign.Sign.TheVariants as s
-use Rattle.c_grammar.specs.Reader.{each, tokens}
+use Rattle.c_grammar.specs.Marks.{each, tokens}
 use Rattle.c_grammar.specs.Token.{Kind, IsNumber, IsWord, IsSign, Token, Mark, sign}
 use Rattle.c_grammar.specs.Spelling.{word_among, words, word_text, word_kind, sign_among, signs, sign_text, sign_kind}
 use Rattle.c_grammar.specs.Decl.{Size, Count, Named, GlobalInt, OneGlobal, SetGlobal, GlobalArray, Globals, GlobalInts, GlobalHolds, GlobalMutexes, GlobalConds, minus_marks, size_marks, global_int_marks, globals_marks, qualifiers_marks}
@@ -23,9 +23,9 @@ use Rattle.c_grammar.specs.File.{Replacement, Plainly, InParens, Top, Include, D
 use Rattle.c_names.specs.Uses.{Meaning, OfVariable, OfFunction, OfNumber, defined_number}
 use Rattle.c_names.specs.Declarations.{Variable, Declaration, numbered, variables, replacement_number, declarations_from, names_of, is_of, first_meaning}
 use Rattle.c_names.specs.Names.{number_or_one, size_number}
-use Rattle.c_names.specs.Parsed.{IsParsed}
-use Rattle.c_names.specs.Texts.{token_read, tokens_read}
-use Rattle.c_types.specs.Counting.{has_value, globals_fit, top_fits}
+use Rattle.c_grammar.specs.Parsed.{IsParsed}
+use Rattle.c_grammar.specs.Lexical.{token_read, tokens_read}
+use Rattle.c_declare.specs.Counting.{has_value, globals_fit, top_fits}
 
 -- tests of lists
 

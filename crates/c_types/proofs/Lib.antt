@@ -1,5 +1,3 @@
-pub mod Listed
-pub mod Tables
 pub mod Orders
 pub mod Naming
 pub mod Zips
@@ -9,5 +7,3 @@ pub mod Sound
 pub mod Counted
 pub mod Fits
 pub mod Wholes
-pub mod Declarators
-pub mod Turns

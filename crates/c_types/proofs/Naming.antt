@@ -13,7 +13,7 @@ use Rattle.c_names.specs.Files.{all_twice_faults}
 use Rattle.c_scope.specs.declared.table.Row.{Row}
 use Rattle.c_scope.specs.Views.{kind_view, meaning_view}
 use Rattle.c_scope.specs.Tables.{Rows, row_of, with_row, fresh, form_or, joined, known_of, names_from}
-use Rattle.c_types.specs.Declaring.{kind_kept, meaning_kept, with_name, with_declarations, has_row, all_again_faults}
+use Rattle.c_declare.specs.Declaring.{kind_kept, meaning_kept, with_name, with_declarations, has_row, all_again_faults}
 
 -- Rows.
 

@@ -6,7 +6,7 @@ use Rattle.c_grammar.specs.File.{File}
 use Rattle.c_names.specs.declared.fault.Fault.{Fault}
 use Rattle.c_names.specs.Faults.{noted_all}
 use Rattle.c_names.specs.Files.{faults_of}
-use Rattle.c_names.specs.Parsed.{IsParsed}
+use Rattle.c_grammar.specs.Parsed.{IsParsed}
 use Rattle.c_names.specs.Sources.{source_of}
 use Rattle.c_prog.specs.Lines.{SourceTree}
 use Rattle.c_prog.specs.Valid.{IsValid}

@@ -3,12 +3,12 @@ use Rattle.std.proofs.Common.{◌≡◌, true, [], ◌++◌, None, ap, sym, subs
 use Rattle.std.specs.List.{list_all}
 use Rattle.cfix_base.specs.declared.Spot.{Spot}
 use Rattle.c_grammar.specs.File.{File}
-use Rattle.c_grammar.specs.Reader.{each}
+use Rattle.c_grammar.specs.Marks.{each}
 use Rattle.c_names.specs.Declarations.{declarations, names_of}
 use Rattle.c_names.specs.Faults.{noted_all}
 use Rattle.c_names.specs.Files.{all_twice_faults, top_faults, main_faults, count_faults, faults_with, faults_of}
 use Rattle.c_names.specs.Uses.{Names}
-use Rattle.c_types.specs.Counting.{top_fits}
+use Rattle.c_declare.specs.Counting.{top_fits}
 use Rattle.c_scope.proofs.Faults.{noted_all-append}
 
 pub whole : (names : Names) (end : Spot) (file : File) → names ≡ names_of file

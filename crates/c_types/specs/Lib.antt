@@ -1,5 +1,2 @@
-pub mod Declaring
-pub mod Counting
 pub mod Outcome
-pub mod Falling
 pub mod Starting

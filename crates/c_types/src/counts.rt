@@ -1,15 +1,15 @@
 ghost use Rattle.std.specs.Prelude.{◌≡◌, ◌++◌, map, IfOk, OnOk};
 ghost use Rattle.c_raw.specs.Decls.{globals_view};
 ghost use Rattle.c_raw.specs.Files.{top_view};
-ghost use Rattle.c_grammar.specs.Reader.{each};
+ghost use Rattle.c_grammar.specs.Marks.{each};
 ghost use Rattle.c_names.specs.Faults.{noted_all};
 ghost use Rattle.c_names.specs.Files.{globals_cells, top_functions, top_cells, top_nodes, count_faults};
 ghost use Rattle.c_names.specs.Limits.{excess_faults, cells_faults};
 ghost use Rattle.c_names.specs.Sources.{top_calls};
 ghost use Rattle.c_scope.specs.Tables.{names_from};
 
-use crate::head::head_name;
-use crate::lists::push_list;
+use c_declare::push_list;
+use c_heads::head_name;
 use c_limits::{note_cells, note_excess, push_calls, push_nodes};
 use c_names::Fault;
 use c_raw::{Globals, Top};
@@ -37,7 +37,7 @@ fn functions_of(alloc: Global, tops: &[Top]) -> Result<List<Spot>, NoMemory>
     Ok(spots)
 }
 
-#[tactic(auto, using(crate::proofs::Declarators::declarators))]
+#[tactic(auto, using(c_declare::proofs::Declarators::declarators))]
 fn push_globals(
     cells: &mut List<(Spot, u32)>,
     names: &Table,

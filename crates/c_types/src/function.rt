@@ -19,12 +19,10 @@ ghost use Rattle.c_prog.specs.Valid.Functions.{param_kind};
 ghost use Rattle.c_prog.specs.Valid.Scope.{nothing_declared};
 ghost use Rattle.c_scope.specs.Tables.{names_from};
 
-use crate::cells::push_params;
-use crate::falls::falls_through;
-use crate::globals::is_main;
-use crate::head::{head_count, head_kind, head_name};
-use crate::params::{Listing, add_params};
 use c_body::{Around, Walk, note_ops, ops_of, resolve_items};
+use c_declare::is_main;
+use c_falls::falls_through;
+use c_heads::{Listing, add_params, head_count, head_kind, head_name, push_params};
 use c_limits::{note_cells, push_cells};
 use c_names::{Fault, FaultKind};
 use c_prog::{FnKind, Function, Stmt};

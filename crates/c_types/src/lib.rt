@@ -2,20 +2,10 @@
 //! or the least fault of its names.
 #![tactic(auto)]
 
-mod cells;
 mod counts;
-mod declarator;
-mod declare;
-mod falls;
 mod fault;
 mod function;
-mod globals;
-mod head;
 mod line_table;
-mod lists;
-mod names;
-mod params;
-mod prototype;
 mod resolving;
 mod starts;
 mod tops;

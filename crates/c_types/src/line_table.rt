@@ -2,7 +2,9 @@ ghost use Rattle.std.specs.Prelude.{◌≡◌, zip, map, IfOk};
 ghost use Rattle.c_prog.specs.Lines.{IsLined, tree_accesses, tree_calls};
 ghost use Rattle.c_names.specs.Sources.{line_table};
 
-use c_prog::{AccessItem, Lines, Program, tree_accesses, tree_calls};
+use c_access::{tree_accesses, tree_calls};
+use c_prog::{AccessItem, Program};
+use c_source::Lines;
 use cfix_base::{AccessId, List, NoMemory, NodeId};
 use std::alloc::Global;
 

@@ -1,30 +1,31 @@
 ghost use Rattle.std.specs.Prelude.{◌≡◌, ◌<◌, ◌^◌, [], None, true, codes, map, IfOk, IfErr, OnOk};
 ghost use Rattle.std.specs.List.{list_all};
 ghost use Rattle.c_raw.specs.Files.{top_view, file_view};
-ghost use Rattle.c_grammar.specs.Reader.{each};
+ghost use Rattle.c_grammar.specs.Marks.{each};
 ghost use Rattle.c_names.specs.Declarations.{names_of, declarations};
 ghost use Rattle.c_names.specs.Faults.{noted_all};
 ghost use Rattle.c_names.specs.Files.{is_function_use, main_faults, all_twice_faults, faults_of};
-ghost use Rattle.c_names.specs.Parsed.{IsParsed};
+ghost use Rattle.c_grammar.specs.Parsed.{IsParsed};
 ghost use Rattle.c_names.specs.Sources.{top_globals, top_functions_of, top_lines, source_of};
 ghost use Rattle.c_names.specs.Uses.{file_use};
 ghost use Rattle.c_prog.specs.Lines.{IsLined};
 ghost use Rattle.c_prog.specs.Valid.{IsValid};
 ghost use Rattle.c_scope.specs.Tables.{names_from};
-ghost use Rattle.c_types.specs.Counting.{file_count, top_fits};
+ghost use Rattle.c_declare.specs.Counting.{file_count, top_fits};
 ghost use Rattle.c_types.specs.Outcome.{Refuses, Tells};
 
 use crate::counts::{calls_of, note_counts};
 use crate::fault::NameFault;
 use crate::line_table::lines_of;
-use crate::names::declare_names;
 use crate::starts::starts_of;
 use crate::tops::{Parts, resolve_tops};
 use c_body::Walk;
+use c_declare::declare_names;
 use c_names::{Fault, FaultKind};
-use c_prog::{Program, Source, Tree};
+use c_prog::{Program, Tree};
 use c_raw::{Raw, Top};
 use c_scope::{Meaning, Row, Table, note_if};
+use c_source::Source;
 use cfix_base::{List, NoMemory, Spot};
 use std::alloc::Global;
 

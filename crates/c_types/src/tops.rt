@@ -3,22 +3,20 @@ ghost use Rattle.std.specs.List.{list_all};
 ghost use Rattle.c_raw.specs.Tokens.{ident_view};
 ghost use Rattle.c_raw.specs.Decls.{globals_view};
 ghost use Rattle.c_raw.specs.Files.{replacement_view, top_view};
-ghost use Rattle.c_grammar.specs.Reader.{each};
+ghost use Rattle.c_grammar.specs.Marks.{each};
 ghost use Rattle.c_names.specs.Declarations.{replacement_number};
 ghost use Rattle.c_names.specs.Faults.{noted_all};
 ghost use Rattle.c_names.specs.Files.{no_main_faults, globals_faults, top_faults};
 ghost use Rattle.c_names.specs.Sources.{globals_of, top_globals, top_functions_of, top_lines};
 ghost use Rattle.c_names.specs.Starts.{start_number, start_faults};
 ghost use Rattle.c_scope.specs.Tables.{names_from};
-ghost use Rattle.c_types.specs.Counting.{top_count, file_count, globals_fit, top_fits};
+ghost use Rattle.c_declare.specs.Counting.{top_count, file_count, globals_fit, top_fits};
 
 use crate::function::resolve_function;
-use crate::globals::note_no_main;
-use crate::lists::{note_list, spell_list};
-use crate::names::replacement_number;
-use crate::prototype::note_prototype;
 use crate::starts::note_start;
 use c_body::Walk;
+use c_declare::{note_list, note_no_main, replacement_number, spell_list};
+use c_heads::note_prototype;
 use c_names::Fault;
 use c_prog::Function;
 use c_raw::{Globals, Ident, Replacement, Top};
@@ -33,7 +31,7 @@ pub struct Parts {
     pub functions: List<Function>,
 }
 
-#[tactic(auto, using(crate::proofs::Declarators::declarators))]
+#[tactic(auto, using(c_declare::proofs::Declarators::declarators))]
 fn note_globals(alloc: Global, least: &mut Option<Fault>, names: &Table, globals: &Globals)
     ensures { least.new ≡ noted_all least.old (globals_faults (names_from names.now) (globals_view globals.now)) }
 {
@@ -53,7 +51,7 @@ fn note_globals(alloc: Global, least: &mut Option<Fault>, names: &Table, globals
     }
 }
 
-#[tactic(auto, using(crate::proofs::Declarators::declarators))]
+#[tactic(auto, using(c_declare::proofs::Declarators::declarators))]
 fn spell_globals(
     alloc: Global,
     list: &mut List<c_prog::Global>,

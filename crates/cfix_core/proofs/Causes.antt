@@ -2,11 +2,11 @@
 use Rattle.std.proofs.Common.{◌≡◌, ◌≤◌, ◌<◌, ◌⊎◌, inl, inr, ℕ, List, length, Option, Some, None, refl, sym, ap, subst, ◌∙◌, arith}
 use Rattle.cfix_outside.specs.Faults.{Rose}
 use Rattle.cfix_outside.specs.Shelves.{Files, Gives, Passes, IsLonger}
-use Rattle.cfix_core.specs.Words.{Asked, patch, show, replay}
+use Rattle.cfix_core.specs.Words.{Asked, patch, show, replay, erase}
 use Rattle.cfix_core.specs.NamedFiles.{Contents, Has, HasFile, WasRead, Holds, IsLong, LongFor, file_name, limit_of}
 use Rattle.cfix_core.specs.Replay.{IsRun}
 use Rattle.cfix_core.specs.declared.failure.Refusal.TheVariants.{NotEnabled}
-use Rattle.cfix_core.proofs.Replays.{one_replay, texts_run, not_replayed, not_refused_run}
+use Rattle.cfix_core.proofs.Replays.{one_refused_run, texts_run, not_replayed, not_erased, not_refused_run}
 use Rattle.cfix_core.specs.Stops.{refusal_status, status_of, line_of}
 use Rattle.cfix_core.specs.Answers.{Answered, RefusedIn, AcceptedIn, CutIn, CutBefore, Ends, Left, PutsNothing, NothingPut, Untried, Writes, RefusedFor, AcceptedFor, StillFor, MustFor, Cause, Noted, Accepted, Still, Must, Told, DoneFor, RefusedAs}
 use Rattle.cfix_core.specs.declared.failure.Refusal.{Refusal}
@@ -113,7 +113,8 @@ one_refused : (asked : Asked) (refusal other : Refusal) (contents : Contents) �
     → RefusedIn asked other contents → other ≡ refusal
 one_refused (patch source reports) refusal other contents p q = one_refusal refusal other contents.program contents.reports p q
 one_refused (show source) refusal other contents p q = one_refused_source refusal other contents.program p q
-one_refused (replay source input schedule) refusal other contents p q = one_replay contents refusal other p q
+one_refused (replay source input schedule) refusal other contents p q = one_refused_run contents refusal other p q
+one_refused (erase source input schedule marks) refusal other contents p q = one_refused_run contents refusal other p q
 
 not_answered : (asked : Asked) (refusal : Refusal) (contents : Contents) (text : List ℕ) → Answered asked contents text
     → RefusedIn asked refusal contents → ⊥
@@ -121,23 +122,27 @@ not_answered (patch source reports) refusal contents text p q =
     not_repaired refusal contents.program contents.reports text p q
 not_answered (show source) refusal contents text p q = not_shown refusal contents.program text p q
 not_answered (replay source input schedule) refusal contents text p q = not_replayed refusal contents text p q
+not_answered (erase source input schedule marks) refusal contents text p q = not_erased refusal marks contents text p q
 
 not_accepted : (asked : Asked) (refusal : Refusal) (contents : Contents) → AcceptedIn asked contents
     → RefusedIn asked refusal contents → ⊥
 not_accepted (patch source reports) refusal contents p q = not_refused refusal contents.program contents.reports p q
 not_accepted (show source) refusal contents p q = not_refused_source refusal contents.program p q
 not_accepted (replay source input schedule) refusal contents p q = not_refused_run refusal contents p q
+not_accepted (erase source input schedule marks) refusal contents p q = not_refused_run refusal contents p q
 
 -- what was there when a put failed: the text, or for a replay what the three files are read as
 abbrev Put : Asked → Contents → Type 0
 Put (patch source reports) contents = (text : List ℕ) × Answered (patch source reports) contents text
 Put (show source) contents = (text : List ℕ) × Answered (show source) contents text
 Put (replay source input schedule) contents = IsRun contents
+Put (erase source input schedule marks) contents = (text : List ℕ) × Answered (erase source input schedule marks) contents text
 
 put_by : (asked : Asked) (contents : Contents) (old new : Option (List ℕ)) → CutIn asked contents old new → Put asked contents
 put_by (patch source reports) contents old new p = (p.text, p.answered)
 put_by (show source) contents old new p = (p.text, p.answered)
 put_by (replay source input schedule) contents old new p = p.is_run
+put_by (erase source input schedule marks) contents old new p = (p.text, p.answered)
 
 -- what is refused is not put, but for the steps of a replay before an entry that makes none
 put_refused : (asked : Asked) (refusal : Refusal) (contents : Contents) → Put asked contents → RefusedIn asked refusal contents
@@ -146,6 +151,8 @@ put_refused (patch source reports) refusal contents p q = absurd (not_answered (
 put_refused (show source) refusal contents p q = absurd (not_answered (show source) refusal contents p.0 p.1 q)
 put_refused (replay source input schedule) refusal contents p (inl q) = absurd (texts_run contents refusal q p)
 put_refused (replay source input schedule) refusal contents p (inr q) = (q.number, q.is_refusal)
+put_refused (erase source input schedule marks) refusal contents p q =
+    absurd (not_answered (erase source input schedule marks) refusal contents p.0 p.1 q)
 
 -- ---- the stops
 
@@ -346,11 +353,13 @@ nothing_at : (stop : Stop) (asked : Asked) (files : Option Files) (old new : Opt
 nothing_at NoMemory (patch source reports) files old new left written none = left
 nothing_at NoMemory (show source) files old new left written none = left
 nothing_at NoMemory (replay source input schedule) files old new left written none = absurd (none.0 refl)
+nothing_at NoMemory (erase source input schedule marks) files old new left written none = left
 nothing_at (CannotRead file) asked files old new left written none = left
 nothing_at (TooLong file) asked files old new left written none = left
 nothing_at CannotWrite asked files old new left written none = absurd (written refl)
 nothing_at (Refused refusal) (patch source reports) files old new left written none = left
 nothing_at (Refused refusal) (show source) files old new left written none = left
+nothing_at (Refused refusal) (erase source input schedule marks) files old new left written none = left
 nothing_at (Refused (NotEnabled number)) (replay source input schedule) files old new left written none = absurd (none.1 refl)
 nothing_at (Refused _) (replay source input schedule) files old new left written none = left
 
@@ -366,11 +375,13 @@ untried_at : (stop : Stop) (asked : Asked) (before now : ℕ) → Untried stop a
 untried_at NoMemory (patch source reports) before now left written none = left
 untried_at NoMemory (show source) before now left written none = left
 untried_at NoMemory (replay source input schedule) before now left written none = absurd (none.0 refl)
+untried_at NoMemory (erase source input schedule marks) before now left written none = left
 untried_at (CannotRead file) asked before now left written none = left
 untried_at (TooLong file) asked before now left written none = left
 untried_at CannotWrite asked before now left written none = absurd (written refl)
 untried_at (Refused refusal) (patch source reports) before now left written none = left
 untried_at (Refused refusal) (show source) before now left written none = left
+untried_at (Refused refusal) (erase source input schedule marks) before now left written none = left
 untried_at (Refused (NotEnabled number)) (replay source input schedule) before now left written none = absurd (none.1 refl)
 untried_at (Refused _) (replay source input schedule) before now left written none = left
 

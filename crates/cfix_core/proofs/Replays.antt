@@ -1,6 +1,7 @@
--- A replay that is refused is refused for one reason, and what goes on is not refused.
+-- The files of a run are refused for one reason, and where each entry makes a step they are not refused.
 use Rattle.std.proofs.Common.{◌≡◌, ◌⊎◌, inl, inr, ℕ, ℤ, List, Option, Some, None, Result, Ok, Err, subst, ap, sym, ◌∙◌, refl}
 use Rattle.cfix_base.specs.declared.entry.Entry.{Entry}
+use Rattle.cfix_base.specs.declared.mark.Marks.{Marks}
 use Rattle.c_prog.specs.Lines.{SourceTree}
 use Rattle.c_read.proofs.Once.{one_reading}
 use Rattle.sched_text.specs.Inputs.{SpellsInput, ExplainsInputFault}
@@ -15,7 +16,7 @@ use Rattle.run_replay.specs.Trace.{refused}
 use Rattle.cfix_core.specs.declared.failure.Refusal.{Refusal}
 use Rattle.cfix_core.specs.declared.failure.Refusal.TheVariants.{NotEnabled}
 use Rattle.cfix_core.specs.NamedFiles.{Contents}
-use Rattle.cfix_core.specs.Replay.{IsRun, GoesOn, IsReplayed, input_refusal, sched_refusal, IsBadInput, IsBadSchedule, RefusesTexts, RefusesEntry, RefusesReplay}
+use Rattle.cfix_core.specs.Replay.{IsRun, GoesOn, IsReplayed, IsErasedText, input_refusal, sched_refusal, IsBadInput, IsBadSchedule, RefusesTexts, RefusesEntry, RefusesRun}
 use Rattle.cfix_core.proofs.Repair.{refused_reads, one_refused_source}
 
 none_some : {X : Type 0} (o : Option X) (x : X) → o ≡ None → o ≡ Some x → ⊥
@@ -136,19 +137,22 @@ module _ (contents : Contents) where
       ∙ ap NotEnabled (same_some (stopped q.is_run) q.number p.number q.first (sym (same_stop p.is_run q.is_run) ∙ p.first))
       ∙ sym p.is_refusal
 
-  pub one_replay : (a b : Refusal) → RefusesReplay a contents → RefusesReplay b contents → b ≡ a
-  one_replay a b (inl p) (inl q) = texts_once a b p q
-  one_replay a b (inl p) (inr q) = absurd (texts_run a p q.is_run)
-  one_replay a b (inr p) (inl q) = absurd (texts_run b q p.is_run)
-  one_replay a b (inr p) (inr q) = entry_once a b p q
+  pub one_refused_run : (a b : Refusal) → RefusesRun a contents → RefusesRun b contents → b ≡ a
+  one_refused_run a b (inl p) (inl q) = texts_once a b p q
+  one_refused_run a b (inl p) (inr q) = absurd (texts_run a p q.is_run)
+  one_refused_run a b (inr p) (inl q) = absurd (texts_run b q p.is_run)
+  one_refused_run a b (inr p) (inr q) = entry_once a b p q
 
   -- where each entry makes a step, nothing is refused
-  pub run_goes_on : (a : Refusal) (run : IsRun contents) → stopped run ≡ None → RefusesReplay a contents → ⊥
+  pub run_goes_on : (a : Refusal) (run : IsRun contents) → stopped run ≡ None → RefusesRun a contents → ⊥
   run_goes_on a run none (inl p) = texts_run a p run
   run_goes_on a run none (inr p) = none_some (stopped run) p.number none (same_stop run p.is_run ∙ p.first)
 
-pub not_replayed : (a : Refusal) (contents : Contents) (text : List ℕ) → IsReplayed contents text → RefusesReplay a contents → ⊥
+pub not_replayed : (a : Refusal) (contents : Contents) (text : List ℕ) → IsReplayed contents text → RefusesRun a contents → ⊥
 not_replayed a contents text p q = run_goes_on contents a p.is_run p.none q
 
-pub not_refused_run : (a : Refusal) (contents : Contents) → GoesOn contents → RefusesReplay a contents → ⊥
+pub not_erased : (a : Refusal) (m : Marks) (contents : Contents) (text : List ℕ) → IsErasedText m contents text → RefusesRun a contents → ⊥
+not_erased a m contents text p q = run_goes_on contents a p.is_run p.none q
+
+pub not_refused_run : (a : Refusal) (contents : Contents) → GoesOn contents → RefusesRun a contents → ⊥
 not_refused_run a contents p q = run_goes_on contents a p.is_run p.none q

@@ -9,7 +9,7 @@ use Rattle.c_prog.specs.declared.tree.Tree.{Tree}
 use Rattle.c_prog.specs.Marks.{all_new}
 use Rattle.c_prog.specs.Strip.{strip_all, strip_tree}
 use Rattle.c_prog.proofs.Equations.{strip-Simple}
-use Rattle.c_prog.proofs.PatchedStrip.{no-old}
+use Rattle.c_patched.proofs.PatchedStrip.{no-old}
 use Rattle.first_form.specs.declared.region.Region.{Region}
 use Rattle.first_form.specs.Straight.{with_ops, main_with, bare, inside, crossing, behind, guarded}
 

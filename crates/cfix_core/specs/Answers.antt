@@ -3,13 +3,13 @@ use Rattle.std.specs.Prelude.{ℕ, ◌≡◌, ◌≢◌, ◌⊎◌, List, Option
 use Rattle.cfix_outside.specs.Faults.{Rose}
 use Rattle.cfix_outside.specs.Shelves.{Files}
 use Rattle.cfix_outside.specs.Sinks.{Gained, GainedFront}
-use Rattle.cfix_core.specs.Words.{Asked, patch, show, replay}
+use Rattle.cfix_core.specs.Words.{Asked, patch, show, replay, erase}
 use Rattle.cfix_core.specs.NamedFiles.{Contents, Holds, HasRisen, LongFor, UnreadFor, file_name}
 use Rattle.cfix_core.specs.Stops.{refusal_status, status_of, line_of, words_line}
 use Rattle.c_names.specs.Texts.{Accepts}
 use Rattle.cfix_core.specs.Sources.{Shown, IsRefusedSource}
 use Rattle.cfix_core.specs.Repair.{Repaired, RefusedBy, IsAccepted}
-use Rattle.cfix_core.specs.Replay.{IsReplayed, GoesOn, RefusesReplay, HasBegun, StandsBefore, IsCutRun}
+use Rattle.cfix_core.specs.Replay.{IsReplayed, IsErasedText, GoesOn, RefusesRun, HasBegun, StandsBefore, IsCutRun}
 use Rattle.cfix_core.specs.declared.failure.Refusal.{Refusal}
 use Rattle.cfix_core.specs.declared.failure.Refusal.TheVariants.{NotEnabled}
 use Rattle.cfix_core.specs.declared.stop.NamedFile.{NamedFile}
@@ -24,18 +24,21 @@ abbrev pub Answered : Asked → Contents → List ℕ → Type 0
 Answered (patch source reports) contents text = Repaired contents.program contents.reports text
 Answered (show source) contents text = Shown contents.program text
 Answered (replay source input schedule) contents text = IsReplayed contents text
+Answered (erase source input schedule marks) contents text = IsErasedText marks contents text
 
 -- why it refuses them
 abbrev pub RefusedIn : Asked → Refusal → Contents → Type 0
 RefusedIn (patch source reports) refusal contents = RefusedBy refusal contents.program contents.reports
 RefusedIn (show source) refusal contents = IsRefusedSource refusal contents.program
-RefusedIn (replay source input schedule) refusal contents = RefusesReplay refusal contents
+RefusedIn (replay source input schedule) refusal contents = RefusesRun refusal contents
+RefusedIn (erase source input schedule marks) refusal contents = RefusesRun refusal contents
 
 -- nothing refuses them
 abbrev pub AcceptedIn : Asked → Contents → Type 0
 AcceptedIn (patch source reports) contents = IsAccepted contents.program contents.reports
 AcceptedIn (show source) contents = Accepts contents.program
 AcceptedIn (replay source input schedule) contents = GoesOn contents
+AcceptedIn (erase source input schedule marks) contents = GoesOn contents
 
 -- some first bytes of the text came to the output
 pub record IsCutText (asked : Asked) (contents : Contents) (old new : Option (List ℕ)) : Type 0 where
@@ -49,6 +52,7 @@ abbrev pub CutIn : Asked → Contents → Option (List ℕ) → Option (List ℕ
 CutIn (patch source reports) contents old new = IsCutText (patch source reports) contents old new
 CutIn (show source) contents old new = IsCutText (show source) contents old new
 CutIn (replay source input schedule) contents old new = IsCutRun contents old new
+CutIn (erase source input schedule marks) contents old new = IsCutText (erase source input schedule marks) contents old new
 
 -- ---- what a command does
 
@@ -102,6 +106,7 @@ abbrev pub LeftShort : Asked → Option Files → Option (List ℕ) → Option (
 LeftShort (patch source reports) files old new = new ≡ old
 LeftShort (show source) files old new = new ≡ old
 LeftShort (replay source input schedule) files old new = (new ≡ old) ⊎ BegunFor (replay source input schedule) files old new
+LeftShort (erase source input schedule marks) files old new = new ≡ old
 
 -- where a replay is refused: nothing came, but for the steps before an entry that makes none
 abbrev pub LeftRun : Refusal → Asked → Option Files → Option (List ℕ) → Option (List ℕ) → Type 0
@@ -112,6 +117,7 @@ abbrev pub LeftRefused : Asked → Refusal → Option Files → Option (List ℕ
 LeftRefused (patch source reports) refusal files old new = new ≡ old
 LeftRefused (show source) refusal files old new = new ≡ old
 LeftRefused (replay source input schedule) refusal files old new = LeftRun refusal (replay source input schedule) files old new
+LeftRefused (erase source input schedule marks) refusal files old new = new ≡ old
 
 -- what came to the output of a command that stopped, but for a put that failed
 abbrev pub Left : Stop → Asked → Option Files → Option (List ℕ) → Option (List ℕ) → Type 0
@@ -129,11 +135,13 @@ abbrev pub UntriedRefused : Asked → Refusal → ℕ → ℕ → Type 0
 UntriedRefused (patch source reports) refusal before now = now ≡ before
 UntriedRefused (show source) refusal before now = now ≡ before
 UntriedRefused (replay source input schedule) refusal before now = UntriedRun refusal before now
+UntriedRefused (erase source input schedule marks) refusal before now = now ≡ before
 
 abbrev pub UntriedShort : Asked → ℕ → ℕ → Type 0
 UntriedShort (patch source reports) before now = now ≡ before
 UntriedShort (show source) before now = now ≡ before
 UntriedShort (replay source input schedule) before now = Unit {0}
+UntriedShort (erase source input schedule marks) before now = now ≡ before
 
 abbrev pub Untried : Stop → Asked → ℕ → ℕ → Type 0
 Untried NoMemory asked before now = UntriedShort asked before now
@@ -146,6 +154,7 @@ abbrev pub PutsNothing : ℕ → Asked → Type 0
 PutsNothing status (patch source reports) = Unit {0}
 PutsNothing status (show source) = Unit {0}
 PutsNothing status (replay source input schedule) = (status ≢ 3) × (status ≢ 9)
+PutsNothing status (erase source input schedule marks) = Unit {0}
 
 abbrev pub NothingPut : ℕ → Option Asked → Type 0
 NothingPut status None = Unit {0}

@@ -2,7 +2,7 @@
 use Rattle.std.specs.Prelude.{ℕ, ◌≡◌, List, [], Option, Some, None}
 use Rattle.cfix_outside.specs.Faults.{Rose}
 use Rattle.cfix_outside.specs.Shelves.{Files, Gives, Passes}
-use Rattle.cfix_core.specs.Words.{Asked, patch, show, replay}
+use Rattle.cfix_core.specs.Words.{Asked, patch, show, replay, erase}
 use Rattle.cfix_core.specs.declared.stop.NamedFile.{NamedFile}
 use Rattle.cfix_core.specs.declared.stop.NamedFile.TheVariants as named
 
@@ -11,11 +11,14 @@ abbrev pub file_name : NamedFile → Asked → Option (List ℕ)
 file_name named.Program (patch source reports) = Some source
 file_name named.Program (show source) = Some source
 file_name named.Program (replay source input schedule) = Some source
+file_name named.Program (erase source input schedule marks) = Some source
 file_name named.Reports (patch source reports) = Some reports
 file_name named.Reports _ = None
 file_name named.Input (replay source input schedule) = Some input
+file_name named.Input (erase source input schedule marks) = Some input
 file_name named.Input _ = None
 file_name named.Schedule (replay source input schedule) = Some schedule
+file_name named.Schedule (erase source input schedule marks) = Some schedule
 file_name named.Schedule _ = None
 
 -- the greatest length of it in bytes

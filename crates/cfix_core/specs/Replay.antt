@@ -1,14 +1,17 @@
--- What a replay makes of the bytes of its three files, and why it refuses them.
+-- What replaying and erasing make of the bytes of the three files of a run, and why they refuse them.
 use Rattle.std.specs.Prelude.{ℕ, ℤ, ◌≡◌, ◌⊎◌, List, Option, Some, None}
 use Rattle.cfix_base.specs.declared.entry.Entry.{Entry}
+use Rattle.cfix_base.specs.declared.mark.Marks.{Marks}
 use Rattle.c_prog.specs.Lines.{SourceTree}
 use Rattle.c_read.specs.Reading.{Reads}
 use Rattle.sched_text.specs.Inputs.{SpellsInput, ExplainsInputFault}
-use Rattle.sched_text.specs.Schedules.{SpellsSchedule, ExplainsSchedFault}
+use Rattle.sched_text.specs.Schedules.{SpellsSchedule, ExplainsSchedFault, written}
 use Rattle.sched_text.specs.declared.input_reader.InputFault.{InputFault}
 use Rattle.sched_text.specs.declared.input_reader.InputFault.TheVariants as input_fault
 use Rattle.sched_text.specs.declared.schedule_reader.SchedFault.{SchedFault}
 use Rattle.sched_text.specs.declared.schedule_reader.SchedFault.TheVariants as sched_fault
+use Rattle.step_state.specs.Erase.{erased}
+use Rattle.step_tables.specs.TreeCode.{tree_code}
 use Rattle.run_replay.specs.Trace.{IsTrace, refused}
 use Rattle.run_replay.specs.Replays.{IsRefused, IsBegun, IsCut, IsCutTrace}
 use Rattle.cfix_core.specs.declared.failure.Refusal.{Refusal}
@@ -37,6 +40,17 @@ pub record IsReplayed (contents : Contents) (text : List ℕ) : Type 0 where
   pub is_run : IsRun contents
   pub none : refused is_run.source.tree is_run.values is_run.entries ≡ None
   pub trace : IsTrace is_run.source.tree is_run.values is_run.entries text
+
+-- the entries of the run whose steps were no new operations
+abbrev pub erased_run : Marks → (contents : Contents) → IsRun contents → List Entry
+erased_run m contents is_run = erased m (tree_code is_run.source.tree) is_run.values is_run.entries
+
+-- each entry makes a step, and `text` is the schedule without those of new operations, as it is read again
+pub record IsErasedText (m : Marks) (contents : Contents) (text : List ℕ) : Type 0 where
+  pub is_run : IsRun contents
+  pub none : refused is_run.source.tree is_run.values is_run.entries ≡ None
+  pub is_text : text ≡ written (erased_run m contents is_run)
+  pub again : SpellsSchedule text (erased_run m contents is_run)
 
 -- the refusal for a fault of the text of the input; want of memory is none
 abbrev pub input_refusal : InputFault → Option Refusal
@@ -87,9 +101,9 @@ abbrev pub RefusesTexts : Refusal → Contents → Type 0
 RefusesTexts refusal contents =
     IsRefusedSource refusal contents.program ⊎ (RefusesInput refusal contents ⊎ RefusesSchedule refusal contents)
 
--- why a replay is refused
-abbrev pub RefusesReplay : Refusal → Contents → Type 0
-RefusesReplay refusal contents = RefusesTexts refusal contents ⊎ RefusesEntry refusal contents
+-- why the files are refused
+abbrev pub RefusesRun : Refusal → Contents → Type 0
+RefusesRun refusal contents = RefusesTexts refusal contents ⊎ RefusesEntry refusal contents
 
 -- ---- what came to the output of a replay that stopped
 

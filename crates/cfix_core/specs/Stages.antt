@@ -1,20 +1,27 @@
 -- What the stages of a command answer: reading its files, and what it makes of their bytes.
-use Rattle.std.specs.Prelude.{ℕ, ℤ, ◌≡◌, ◌≤◌, ◌⊎◌, List, length, Option}
+use Rattle.std.specs.Prelude.{ℕ, ℤ, ◌≡◌, ◌≤◌, ◌⊎◌, List, length, Option, Some}
 use Rattle.cfix_base.specs.declared.entry.Entry.{Entry}
+use Rattle.cfix_base.specs.declared.mark.Marks.{Marks}
 use Rattle.cfix_outside.specs.Faults.{Rose}
 use Rattle.cfix_outside.specs.Shelves.{Files}
 use Rattle.cfix_outside.specs.Sinks.{Gained}
 use Rattle.c_prog.specs.declared.tree.Tree.{Tree}
+use Rattle.c_read.specs.Reading.{Reads}
+use Rattle.sched_text.specs.Inputs.{SpellsInput}
+use Rattle.sched_text.specs.Schedules.{SpellsSchedule}
+use Rattle.run_erase.specs.Erases.{IsErased}
+use Rattle.run_replay.specs.Trace.{refused}
 use Rattle.run_replay.specs.Replays.{IsRefused, IsBegun, IsCut, IsCutTrace}
 use Rattle.cfix_core.specs.declared.failure.Refusal.{Refusal}
 use Rattle.cfix_core.specs.declared.failure.Refusal.TheVariants.{NotEnabled}
 use Rattle.cfix_core.specs.declared.stop.NamedFile.{NamedFile}
 use Rattle.cfix_core.specs.declared.stop.Stop.{Stop}
 use Rattle.cfix_core.specs.declared.stop.Stop.TheVariants.{NoMemory, CannotRead, TooLong, CannotWrite, Refused}
+use Rattle.cfix_core.specs.declared.run_files.RunFiles.{RunFiles}
 use Rattle.cfix_core.specs.declared.texts.Texts.{Texts}
-use Rattle.cfix_core.specs.Words.{Asked, patch, show, replay}
+use Rattle.cfix_core.specs.Words.{Asked, patch, show, replay, erase}
 use Rattle.cfix_core.specs.NamedFiles.{Contents, HasRisen, IsLong, LongFor, UnreadFor, limit_of}
-use Rattle.cfix_core.specs.Replay.{IsReplayed, RefusesReplay, HasBegun, StandsBefore, IsCutRun}
+use Rattle.cfix_core.specs.Replay.{IsReplayed, RefusesRun, HasBegun, StandsBefore, IsCutRun}
 use Rattle.cfix_core.specs.Answers.{Answered, RefusedIn, IsCutText}
 
 -- the bytes of the files that were read
@@ -53,6 +60,7 @@ abbrev pub BuildsText : Asked → Type 0
 BuildsText (patch source reports) = Unit {0}
 BuildsText (show source) = Unit {0}
 BuildsText (replay source input schedule) = ⊥
+BuildsText (erase source input schedule marks) = Unit {0}
 
 -- the text came to the output
 pub record IsPut (asked : Asked) (contents : Contents) (old new : Option (List ℕ)) : Type 0 where
@@ -65,6 +73,25 @@ PutStops NoMemory asked contents old new before now = (new ≡ old) × (now ≡ 
 PutStops CannotWrite asked contents old new before now = IsCutText asked contents old new × Rose before now
 PutStops (Refused refusal) asked contents old new before now = RefusedIn asked refusal contents × (new ≡ old) × (now ≡ before)
 PutStops _ asked contents old new before now = ⊥
+
+-- ---- the three files of a run
+
+-- what they are read as
+pub record AreRead (contents : Contents) (files : RunFiles) : Type 0 where
+  pub reads : Reads contents.program files.source
+  pub is_input : SpellsInput contents.input files.values.items
+  pub is_schedule : SpellsSchedule contents.schedule files.entries
+
+-- ---- erasing
+
+-- each entry of a schedule made a step, and these are the entries that were no new operations
+pub record ErasesTo (m : Marks) (tree : Tree) (input : List ℤ) (es kept : List Entry) : Type 0 where
+  pub erases : IsErased m tree input es kept
+  pub shorter : length kept ≤ length es
+
+abbrev pub EraseFails : Refusal → Tree → List ℤ → List Entry → Type 0
+EraseFails (NotEnabled number) tree input es = refused tree input es ≡ Some number
+EraseFails _ tree input es = ⊥
 
 -- ---- a replay
 
@@ -81,7 +108,7 @@ RunLeft _ contents old new before now = (new ≡ old) × (now ≡ before)
 abbrev pub RunStops : Stop → Contents → Option (List ℕ) → Option (List ℕ) → ℕ → ℕ → Type 0
 RunStops NoMemory contents old new before now = (new ≡ old) ⊎ HasBegun contents old new
 RunStops CannotWrite contents old new before now = IsCutRun contents old new × Rose before now
-RunStops (Refused refusal) contents old new before now = RefusesReplay refusal contents × RunLeft refusal contents old new before now
+RunStops (Refused refusal) contents old new before now = RefusesRun refusal contents × RunLeft refusal contents old new before now
 RunStops _ contents old new before now = ⊥
 
 -- the same of a schedule and an input that were read

@@ -4,7 +4,7 @@ ghost use Rattle.cfix_core.specs.Failures.{FailsBy};
 ghost use Rattle.cfix_core.specs.Repair.{Breaks, IsBound, HasRefusal, failure_for, region_of_atom, region_of};
 
 use crate::failure::{Failure, Refusal};
-use c_prog::Source;
+use c_source::Source;
 use first_form::Region;
 use plan_types::{Atom, Bound};
 use report_bind::{BindFault, bind};

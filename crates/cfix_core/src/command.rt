@@ -6,6 +6,7 @@ ghost use Rattle.cfix_core.specs.Failures.{FailsBy};
 ghost use Rattle.cfix_core.specs.Answers.{Answered, RefusedIn, DoneFor, Cause, Left, Untried};
 ghost use Rattle.cfix_core.specs.Stages.{contents_of, AreWithin, ReadCause, ReadsStop, BuildsText, IsPut, PutStops};
 
+use crate::erase::erased_text;
 use crate::failure::Failure;
 use crate::patch::patched;
 use crate::replay::replayed;
@@ -84,6 +85,7 @@ fn answer(alloc: Global, request: &Request<'_>, texts: &Texts) -> Result<Vec<u8>
     match *request {
         Request::Patch { .. } => patched(alloc, &texts.program, &texts.reports),
         Request::Show { .. } => shown(alloc, &texts.program),
+        Request::Erase { marks, .. } => erased_text(alloc, texts, marks),
         Request::Replay { .. } => unreachable!(),
     }
 }
@@ -132,6 +134,10 @@ pub(crate) fn work<H: Shelf, O: Sink>(
             Err(stop) => Err(stop),
         },
         Request::Show { .. } => match put_answer(alloc, request, &texts, out) {
+            Ok(()) => Ok(()),
+            Err(stop) => Err(stop),
+        },
+        Request::Erase { .. } => match put_answer(alloc, request, &texts, out) {
             Ok(()) => Ok(()),
             Err(stop) => Err(stop),
         },

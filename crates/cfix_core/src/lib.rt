@@ -3,12 +3,14 @@
 
 mod binding;
 mod command;
+mod erase;
 mod failure;
 mod note;
 mod one_report;
 mod patch;
 mod reading;
 mod replay;
+mod run_files;
 mod show;
 mod stop;
 mod texts;

@@ -13,7 +13,7 @@ use crate::failure::{Failure, Refusal};
 use crate::one_report::only_report;
 use crate::reading::first_source_of;
 use c_print::print;
-use c_prog::Source;
+use c_source::Source;
 use cfix_base::NoMemory;
 use first_form::{Plain, Region, guarded, plains_of};
 use report_json::{Report, ReportFault, Reports, reports};

@@ -4,8 +4,8 @@ ghost use Rattle.cfix_core.specs.Failures.{FailsBy};
 ghost use Rattle.cfix_core.specs.Sources.{IsRefusedSource, IsFirstSource, IsNoFirstSource, failure_of_fault};
 
 use crate::failure::{Failure, Refusal};
-use c_prog::Source;
 use c_read::{ReadFault, read_source};
+use c_source::Source;
 use first_form::is_first_form;
 use std::alloc::Global;
 

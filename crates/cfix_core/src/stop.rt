@@ -54,6 +54,17 @@ pub(crate) fn name_of<'w>(request: &Request<'w>, file: NamedFile) -> Option<&'w 
             NamedFile::Schedule => Some(schedule),
             NamedFile::Reports => None,
         },
+        Request::Erase {
+            source,
+            input,
+            schedule,
+            marks: _,
+        } => match file {
+            NamedFile::Program => Some(source),
+            NamedFile::Input => Some(input),
+            NamedFile::Schedule => Some(schedule),
+            NamedFile::Reports => None,
+        },
     }
 }
 

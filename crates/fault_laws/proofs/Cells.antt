@@ -2,7 +2,7 @@
 use Rattle.std.proofs.Common.{ℕ, suc, ◌-◌, List, [], ◌∷◌, map, Option, Some, None}
 use Rattle.cfix_base.specs.declared.Spot.{Spot}
 use Rattle.c_grammar.specs.declared.sign.Sign.TheVariants as s
-use Rattle.c_grammar.specs.Reader.{each, maybe}
+use Rattle.c_grammar.specs.Marks.{each, maybe}
 use Rattle.c_grammar.specs.Token.{Mark, sign}
 use Rattle.c_grammar.specs.Decl.{Hold, OneThread, Threads, hold_marks, LocalInt, OneLocal, SetLocal, LocalArray, local_int_marks, Decl, Ints, Holds, decl_marks, LoopInt, OneLoop, SetLoop, loop_int_marks}
 use Rattle.c_grammar.specs.Stmt.{First, FirstInts, FirstPlain, first_marks, Stmt, Block, Nothing, Simply, Jumps, If, While, For, Else, NoElse, ElseDo, Items, NoItems, AndItem, Item, Declares, Does, stmt_marks, else_marks, items_marks, item_marks}

@@ -1,7 +1,7 @@
 -- Faults of expressions, targets and calls stand at their tokens.
 use Rattle.std.proofs.Common.{ℕ, suc, not, ◌&&◌, ◌==◌, List, [], ◌∷◌, map, Option, Some, None}
 use Rattle.cfix_base.specs.declared.Spot.{Spot}
-use Rattle.c_grammar.specs.Reader.{maybe}
+use Rattle.c_grammar.specs.Marks.{maybe}
 use Rattle.c_grammar.specs.Token.{Ident}
 use Rattle.c_grammar.specs.Expr.{Expr, Number, Name, Index, Paren, Cast, Unary, Operation, pieces, expr_marks}
 use Rattle.c_grammar.specs.Simple.{Place, place_marks, Target, TargetOf, target_marks, more_exprs_marks, Args, args_marks, Call, CallOf, call_marks, Value, Computed, Called, value_marks}

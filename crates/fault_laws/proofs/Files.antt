@@ -5,7 +5,7 @@ use Rattle.std.proofs.lemmas.List.Elements.{All-nil, All-cons, Contains-append_r
 use Rattle.cfix_base.specs.declared.limits.TheConstants.{MAX_NODES, MAX_FUNCTIONS, MAX_GLOBALS, MAX_GLOBAL_CELLS, MAX_LOCAL_CELLS}
 use Rattle.cfix_base.specs.declared.Spot.{Spot}
 use Rattle.c_grammar.specs.declared.sign.Sign.TheVariants as s
-use Rattle.c_grammar.specs.Reader.{each, tokens}
+use Rattle.c_grammar.specs.Marks.{each, tokens}
 use Rattle.c_grammar.specs.Token.{Ident, Mark, sign}
 use Rattle.c_grammar.specs.Op.{Ops, ops_marks}
 use Rattle.c_grammar.specs.Decl.{Size, size_marks, Hold, OneThread, Threads, hold_marks, GlobalInt, OneGlobal, SetGlobal, GlobalArray, global_int_marks, GlobalMutex, OneMutex, SetMutex, global_mutex_marks, GlobalCond, OneCond, SetCond, global_cond_marks, Globals, GlobalInts, GlobalHolds, GlobalMutexes, GlobalConds, globals_marks}

@@ -1,7 +1,7 @@
 -- The nodes of a body stand at tokens.
 use Rattle.std.proofs.Common.{ℕ, zero, suc, List, [], ◌∷◌, map, drop, Option, Some, None}
 use Rattle.cfix_base.specs.declared.Spot.{Spot}
-use Rattle.c_grammar.specs.Reader.{maybe}
+use Rattle.c_grammar.specs.Marks.{maybe}
 use Rattle.c_grammar.specs.Expr.{Expr, Number, Name, Index, Paren, Cast, Unary, Operation, pieces}
 use Rattle.c_grammar.specs.Simple.{Target, TargetOf, target_marks, Call, CallOf, call_marks, Plain, SetTo, Changed, SteppedAfter, SteppedBefore, plain_marks, Library, Create, Join, Lock, Unlock, Print, Scan, Wait, Signal, Broadcast, library_marks, Simple, PlainPart, SetCall, OnlyCall, LibraryPart, simple_marks}
 use Rattle.c_grammar.specs.Decl.{Hold, OneThread, Threads, hold_marks, LocalInt, OneLocal, SetLocal, LocalArray, local_int_marks, Decl, Ints, Holds, decl_marks, LoopInt, OneLoop, SetLoop, loop_int_marks}

@@ -7,14 +7,14 @@ use Rattle.cfix_base.specs.declared.op.Op.{Op}
 use Rattle.c_prog.specs.declared.act.Act.{Act}
 use Rattle.c_prog.specs.declared.global.Global as global_struct
 use Rattle.c_prog.specs.Nodes.{nodes_of, tree_nodes}
-use Rattle.c_prog.specs.Straight.{begins_with_zero, is_straight_act, is_straight_stmt, is_straight}
+use Rattle.straight_laws.specs.Straight.{begins_with_zero, is_straight_act, is_straight_stmt, is_straight}
 use Rattle.c_prog.specs.Valid.{IsValid}
 use Rattle.c_prog.specs.Valid.Expressions.{is_main_name}
 use Rattle.c_prog.specs.Valid.Functions.{are_declared_names}
 use Rattle.c_prog.specs.Valid.Operations.{are_valid_ops}
 use Rattle.c_prog.proofs.Equations.{nodes-Simple}
-use Rattle.c_prog.proofs.StraightEquations.{straight-Simple}
-use Rattle.c_prog.proofs.ValidStraight.{valid-straight}
+use Rattle.straight_laws.proofs.StraightEquations.{straight-Simple}
+use Rattle.straight_laws.proofs.ValidStraight.{valid-straight}
 use Rattle.first_form.specs.declared.region.Region.{Region}
 use Rattle.first_form.specs.Straight.{with_ops, crossing, inside, behind, guarded}
 

@@ -17,7 +17,7 @@ use Rattle.c_prog.specs.declared.stmt.Stmt.TheVariants.{Simple}
 use Rattle.c_prog.specs.declared.tree.Tree.{Tree}
 use Rattle.c_prog.specs.Nodes.{tree_nodes}
 use Rattle.c_prog.specs.Patched.{has_some}
-use Rattle.c_prog.specs.Straight.{begins_with_zero, is_straight_act}
+use Rattle.straight_laws.specs.Straight.{begins_with_zero, is_straight_act}
 use Rattle.c_prog.specs.Valid.{IsValid}
 use Rattle.c_prog.specs.Valid.Acts.{is_declared_name}
 use Rattle.c_prog.specs.Valid.Expressions.{is_main_name, is_int_kind}

@@ -22,9 +22,9 @@ use Rattle.c_prog.specs.declared.stmt.Stmt.TheOpen.{Stmt-F}
 use Rattle.c_prog.specs.declared.stmt.Stmt.TheViews.{out-Stmt, roll-Stmt, roll-out-Stmt}
 use Rattle.c_prog.specs.declared.stmt.Stmt.TheFolds.{fold_out-Stmt, map-Stmt}
 use Rattle.c_prog.specs.Patched.{has_some}
-use Rattle.c_prog.specs.Straight.{is_scalar, is_straight_expr, is_straight_act}
+use Rattle.straight_laws.specs.Straight.{is_scalar, is_straight_expr, is_straight_act}
 use Rattle.c_prog.specs.Valid.Expressions.{is_number}
-use Rattle.c_prog.proofs.StraightEquations.{straight-Number, straight-Read}
+use Rattle.straight_laws.proofs.StraightEquations.{straight-Number, straight-Read}
 use Rattle.first_form.specs.declared.plain.Given.{Given}
 use Rattle.first_form.specs.declared.plain.Given.TheVariants as given
 use Rattle.first_form.specs.declared.plain.Plain.{Plain}

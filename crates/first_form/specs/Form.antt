@@ -20,7 +20,7 @@ use Rattle.c_prog.specs.declared.stmt.Stmt.TheOpen.{Stmt-F}
 use Rattle.c_prog.specs.declared.stmt.Stmt.TheFolds.{fold-Stmt}
 use Rattle.c_prog.specs.declared.tree.Tree.{Tree}
 use Rattle.c_prog.specs.Patched.{has_some}
-use Rattle.c_prog.specs.Straight.{begins_with_zero}
+use Rattle.straight_laws.specs.Straight.{begins_with_zero}
 use Rattle.c_prog.specs.Valid.Expressions.{is_number}
 use Rattle.c_prog.specs.Valid.Functions.{is_main}
 use Rattle.first_form.specs.declared.plain.Given.{Given}

@@ -1,6 +1,6 @@
 ghost use Rattle.std.specs.Prelude.{◌≡◌, length, IfOk};
 ghost use Rattle.std.specs.List.{filter_map, list_all};
-ghost use Rattle.c_prog.specs.Straight.{begins_with_zero};
+ghost use Rattle.straight_laws.specs.Straight.{begins_with_zero};
 ghost use Rattle.c_prog.specs.Valid.Functions.{is_main};
 ghost use Rattle.first_form.specs.Form.{is_plain, is_plain_main, is_only_main, is_first_form, plain_of, first_body, plains_of};
 

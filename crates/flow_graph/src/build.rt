@@ -12,7 +12,8 @@ use crate::graph::Flow;
 use crate::inner_sizes::InnerSizes;
 use crate::sizes::{function_size, functions_size, step_size};
 use crate::table::{Out, Side, Table, add};
-use c_prog::{Cond, Expr, Function, Jump, Program, Step, Stmt, node_count};
+use c_nodes::node_count;
+use c_prog::{Cond, Expr, Function, Jump, Program, Step, Stmt};
 use cfix_base::{FnId, List, NoMemory};
 use std::alloc::Global;
 

@@ -1,2 +1,4 @@
 pub mod OwnPaths
 pub mod RegionEnds
+pub mod Kept
+pub mod Returns

@@ -2,9 +2,9 @@
 use Rattle.std.proofs.Common.{◌≡◌, ℕ, List, refl, sym, ap, ◌∙◌}
 use Rattle.c_grammar.specs.Token.{Token}
 use Rattle.c_grammar.specs.File.{File}
-use Rattle.c_grammar.specs.Reader.{Unexpected, Deep, Out, Got, Stop}
-use Rattle.c_grammar.specs.ReadFile.{read_file}
-use Rattle.c_grammar.proofs.ReadFile.{file_reads_exactly}
+use Rattle.c_reading.specs.Reader.{Unexpected, Deep, Out, Got, Stop}
+use Rattle.c_reading.specs.ReadFile.{read_file}
+use Rattle.c_reading.proofs.ReadFile.{file_reads_exactly}
 use Rattle.grammar_laws.specs.Verdicts.{HasVerdict}
 
 pub is_verdict : (limit : ℕ) (ts : List Token) → HasVerdict limit ts (read_file limit ts)

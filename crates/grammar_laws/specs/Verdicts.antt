@@ -2,7 +2,7 @@
 use Rattle.std.specs.Prelude.{◌≡◌, ℕ, List, []}
 use Rattle.c_grammar.specs.Token.{Token}
 use Rattle.c_grammar.specs.File.{File, file_marks, is_file}
-use Rattle.c_grammar.specs.Reader.{Unexpected, Deep, Out, Got, Stop}
+use Rattle.c_reading.specs.Reader.{Unexpected, Deep, Out, Got, Stop}
 use Rattle.c_grammar.specs.Verdict.{IsRead, IsUnexpectedAt, IsDeepAt}
 
 -- The tokens are those of this file, to their end; or they stop being those of a file here; or they are too deep here.

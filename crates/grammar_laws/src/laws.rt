@@ -2,7 +2,7 @@
 ghost use Rattle.std.specs.Prelude.{ℕ, ◌≡◌, List};
 ghost use Rattle.c_grammar.specs.Token.{Token};
 ghost use Rattle.c_grammar.specs.File.{File};
-ghost use Rattle.c_grammar.specs.Reader.{Out};
+ghost use Rattle.c_reading.specs.Reader.{Out};
 ghost use Rattle.grammar_laws.specs.Verdicts.{HasVerdict};
 
 /// Each list of tokens is that of a file and nowhere too deep, or has a first token that is

@@ -186,7 +186,7 @@ module _ (m : Marks) (q : Code) (marked : IsMarked m q) (y : Layout) (laid : IsL
   abbrev anything : List Seen → Configuration → Type 0
   anything past c = Unit {0}
 
-  -- clause 5 where orders are given by their tokens
+  -- a source run is repeated, where orders are given by their tokens
   pub lifts_runs : (input : List ℤ) (es : List Entry) (ks : List Seen) (last : Configuration) → Sound (start q input)
       → run (strip_code m q) input es ≡ Some (ks, last) → AllClear (strip_code m q) K comes bs q.locks q.orders nothing never [] (start (strip_code m q) input) es
       → Repeats m q marked y laid bs posts pres placed sorted Sound sound_step (λ s sound k new few. sound.exacts k new few) ready_stays (λ s sound t th at. sound.shapes.at t th at)
@@ -253,7 +253,7 @@ module _ (m : Marks) (q : Code) (marked : IsMarked m q) (y : Layout) (laid : IsL
     waits_pass past c was sound calm hist j new few (inr h) =
         ap (λ x. no_token (slice_index c.tokens j) || x) (flag_of past c was sound calm hist j new few h) ∙ or_right (no_token (slice_index c.tokens j))
 
-    -- clause 5
+    -- a source run is repeated, where orders may also be ready by what the steps before tell
     pub lifts_all : (input : List ℤ) (es : List Entry) (ks : List Seen) (last : Configuration)
         → ((j : ℕ) → m.order ≤ j → j < q.orders → get_or (initial_tokens q.orders q.starts) j 0 ≡ before_set q (owes (comes j) root) (Start (fn_id q.main)))
         → Hist [] (start q input) → run (strip_code m q) input es ≡ Some (ks, last)
@@ -265,7 +265,7 @@ module _ (m : Marks) (q : Code) (marked : IsMarked m q) (y : Layout) (laid : IsL
         kept K inside carries (λ s sound k new few t th at. ((sound.goods k new few).fit.each.at t th at).depth) comes passed Hist hist_step waits_pass
         input es ks last (sound_start input begins) hist ran clear
 
--- clause 5 for locks and for orders that are ready by their bottom frames
+-- a source run is repeated, for locks and for orders that are ready by their bottom frames
 pub repeated : (m : Marks) (q : Code) (y : Layout) (posts pres : Place → List Op) (kept K : ℕ → ℕ → Bool) (al bs : ℕ → ℕ) (comes : ℕ → ℕ → Bool) (root : ℕ → Bool)
     → IsPatched m q y posts pres kept K al bs comes root → (input : List ℤ) (es : List Entry) (ks : List Seen) (last : Configuration)
     → run (strip_code m q) input es ≡ Some (ks, last) → AllClear (strip_code m q) K comes bs q.locks q.orders none_passed never [] (start (strip_code m q) input) es

@@ -4,7 +4,7 @@ use Rattle.std.proofs.lemmas.List.{length-append, length-map}
 use Rattle.cfix_base.specs.declared.Spot.{Spot}
 use Rattle.cfix_base.specs.declared.access.Access.{Access}
 use Rattle.cfix_base.specs.declared.access.Access.TheVariants.{Read, Write}
-use Rattle.c_grammar.specs.Reader.{each}
+use Rattle.c_grammar.specs.Marks.{each}
 use Rattle.c_grammar.specs.Expr as g
 use Rattle.c_grammar.specs.Simple as s
 use Rattle.c_prog.specs.declared.access_item.Touch.{Touch}

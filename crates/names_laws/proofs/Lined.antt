@@ -1,7 +1,7 @@
 -- The lines of a source are those of its accesses and of its calls, one for each.
 use Rattle.std.proofs.Common.{◌≡◌, ℕ, ◌+◌, List, [], ◌∷◌, ◌++◌, map, length, zip, refl, ap, sym, ◌∙◌, arith}
 use Rattle.std.proofs.lemmas.List.{length-append, length-map}
-use Rattle.c_grammar.specs.Reader.{each}
+use Rattle.c_grammar.specs.Marks.{each}
 use Rattle.c_grammar.specs.File as f
 use Rattle.c_prog.specs.Lines.{IsLined, tree_accesses, tree_calls}
 use Rattle.c_prog.specs.Order.{tree_order}

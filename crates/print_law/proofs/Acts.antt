@@ -15,7 +15,7 @@ use Rattle.c_grammar.specs.declared.word.Word.TheVariants as w
 use Rattle.c_grammar.specs.Token.{IsName, IsWord, IsSign, word, sign}
 use Rattle.c_grammar.specs.Expr as g
 use Rattle.c_grammar.specs.Simple as m
-use Rattle.c_grammar.specs.Reader.{tokens}
+use Rattle.c_grammar.specs.Marks.{tokens}
 use Rattle.c_grammar.specs.Spelling.{sign_text}
 use Rattle.c_print.specs.Text.Names.{Names}
 use Rattle.c_print.specs.Text.Expressions.{is_zero, printed, operand, thread_argument}

@@ -29,7 +29,7 @@ use Rattle.c_prog.specs.Valid.Falls.{falls_through}
 use Rattle.c_prog.specs.Valid.Functions.{are_distinct, file_names, param_kind, with_params, is_valid_count, is_valid_end, is_valid_function, is_main}
 use Rattle.c_prog.specs.Valid.Functions as valid
 use Rattle.c_prog.specs.Valid.Operations.{rise_after, are_rising}
-use Rattle.c_grammar.specs.Reader.{each, maybe}
+use Rattle.c_grammar.specs.Marks.{each, maybe}
 use Rattle.c_grammar.specs.File as f
 use Rattle.c_grammar.specs.Token.{Ident}
 use Rattle.c_print.specs.Text.Names.{names_in}

@@ -5,7 +5,7 @@ use Rattle.c_prog.specs.declared.expr.BinOp.{BinOp}
 use Rattle.c_grammar.specs.declared.sign.Sign.{Sign}
 use Rattle.c_grammar.specs.declared.sign.Sign.TheVariants as s
 use Rattle.c_grammar.specs.Expr.{binary_sign}
-use Rattle.c_grammar.specs.Reader.{first}
+use Rattle.c_grammar.specs.Marks.{first}
 use Rattle.c_grammar.specs.Spelling.{sign_text}
 use Rattle.c_grammar.specs.Token.{Kind, IsName, IsNumber, IsQuoted, IsWord, IsOther, IsSign}
 use Rattle.c_lex.proofs.Again.{goes_on}

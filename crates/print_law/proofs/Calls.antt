@@ -12,7 +12,7 @@ use Rattle.c_grammar.specs.declared.sign.Sign.TheVariants as s
 use Rattle.c_grammar.specs.Token.{IsName, IsSign}
 use Rattle.c_grammar.specs.Expr as g
 use Rattle.c_grammar.specs.Simple as m
-use Rattle.c_grammar.specs.Reader.{tokens, first}
+use Rattle.c_grammar.specs.Marks.{tokens, first}
 use Rattle.c_print.specs.Text.Names.{Names, name_at, var_name}
 use Rattle.c_print.specs.Text.Pieces.{between, in_parentheses}
 use Rattle.c_print.specs.Text.Expressions.{target_text, expr_text}

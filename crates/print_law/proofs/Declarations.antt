@@ -15,7 +15,7 @@ use Rattle.c_prog.specs.declared.tree.Tree.{Tree}
 use Rattle.c_prog.specs.Patched.{tree_patched}
 use Rattle.c_prog.specs.Valid.Functions.{is_valid_count}
 use Rattle.c_prog.specs.Valid.Kinds.{global_var_kind}
-use Rattle.c_grammar.specs.Reader.{maybe}
+use Rattle.c_grammar.specs.Marks.{maybe}
 use Rattle.c_grammar.specs.File as f
 use Rattle.c_grammar.specs.Token.{Ident}
 use Rattle.c_print.specs.Text.Names.{names_in}

@@ -25,7 +25,7 @@ use Rattle.c_grammar.specs.Decl as l
 use Rattle.c_grammar.specs.Op as o
 use Rattle.c_grammar.specs.Stmt as t
 use Rattle.c_grammar.specs.File as f
-use Rattle.c_grammar.specs.Reader.{tokens, each}
+use Rattle.c_grammar.specs.Marks.{tokens, each}
 use Rattle.c_print.specs.Text.Names.{Names, name_at, names_in}
 use Rattle.print_law.proofs.Plain.{plain_body}
 use Rattle.print_law.proofs.Items.{Item, Gap, Is, kinds, here, later, marked, spotted, after, joint}

@@ -3,7 +3,7 @@ use Rattle.std.proofs.Common.{◌≡◌, ℕ, suc, Bool, true, false, List, [], 
 use Rattle.cfix_base.specs.declared.spot.Spot.{Spot}
 use Rattle.c_grammar.specs.Token.{Kind, Token, Mark}
 use Rattle.c_grammar.specs.Expr.{Piece, placed}
-use Rattle.c_grammar.specs.Reader.{tokens}
+use Rattle.c_grammar.specs.Marks.{tokens}
 
 -- a space, or a token
 pub data Item : Type 0 where

@@ -10,7 +10,7 @@ use Rattle.c_grammar.specs.declared.sign.Sign.{Sign}
 use Rattle.c_grammar.specs.declared.sign.Sign.TheVariants as s
 use Rattle.c_grammar.specs.declared.word.Word.{Word}
 use Rattle.c_grammar.specs.declared.word.Word.TheVariants as w
-use Rattle.c_grammar.specs.Reader.{first}
+use Rattle.c_grammar.specs.Marks.{first}
 use Rattle.c_grammar.specs.Spelling.{word_text, sign_text}
 use Rattle.c_grammar.specs.Token.{Kind, IsName, IsNumber, IsQuoted, IsWord, IsOther, IsSign}
 use Rattle.c_grammar.proofs.Spelling.{word_spelled, sign_spelled}
@@ -26,7 +26,8 @@ use Rattle.c_lex.specs.Reading.{pieces_at}
 use Rattle.c_lex.proofs.Again.{IsFirst, again, blank_first, begins_by, identifier_first, numeral_first, literal_first, two_first, one_first}
 use Rattle.c_lex.proofs.Classes.{start_is_byte, digit_is_byte}
 use Rattle.c_lex.proofs.Divisions.{divides}
-use Rattle.c_names.specs.Texts.{kind_read, token_read, tokens_read, is_known, DividesInto}
+use Rattle.c_grammar.specs.Lexical.{kind_read, token_read, tokens_read}
+use Rattle.c_names.specs.Texts.{is_known, DividesInto}
 use Rattle.c_print.specs.Text.Pieces as pieces
 use Rattle.c_prog.specs.Order.{joined}
 use Rattle.c_prog.specs.Valid.Expressions as valid

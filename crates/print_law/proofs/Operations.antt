@@ -15,7 +15,7 @@ use Rattle.c_grammar.specs.Expr as g
 use Rattle.c_grammar.specs.Op as o
 use Rattle.c_grammar.specs.Cond as c
 use Rattle.c_grammar.specs.Spelling.{sign_text}
-use Rattle.c_grammar.specs.Reader.{tokens, first, each}
+use Rattle.c_grammar.specs.Marks.{tokens, first, each}
 use Rattle.c_print.specs.Text.Names.{Names}
 use Rattle.c_print.specs.Text.Pieces.{between, ended, in_parentheses}
 use Rattle.c_print.specs.Text.Operations.{op_text, op_lines, valued, with_true, with_false, cond_text}

@@ -7,7 +7,7 @@ use Rattle.cfix_base.specs.declared.spot.Spot.{Spot}
 use Rattle.c_lex.specs.Bytes.{is_line_feed}
 use Rattle.c_lex.specs.Faults.{spot_behind}
 use Rattle.c_grammar.specs.Token.{Kind, Token}
-use Rattle.c_grammar.specs.Reader.{tokens, head}
+use Rattle.c_grammar.specs.Marks.{tokens, head}
 use Rattle.c_grammar.specs.File as f
 use Rattle.c_print.specs.Text.Pieces as pieces
 use Rattle.print_law.proofs.Items.{Item, Gap, Is, kinds, kinds-append, marked, marked-append, beyond, beyond-append, spotted, after, tokens-append}

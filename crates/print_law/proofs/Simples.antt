@@ -22,7 +22,7 @@ use Rattle.c_grammar.specs.Op.{Ops, ops_marks}
 use Rattle.c_grammar.specs.Simple as m
 use Rattle.c_grammar.specs.Decl as l
 use Rattle.c_grammar.specs.Stmt as t
-use Rattle.c_grammar.specs.Reader.{tokens, first}
+use Rattle.c_grammar.specs.Marks.{tokens, first}
 use Rattle.c_grammar.specs.Spelling.{sign_text}
 use Rattle.c_print.specs.Text.Names.{Names, name_at}
 use Rattle.c_print.specs.Text.Expressions.{thread_argument, target_text, expr_text}

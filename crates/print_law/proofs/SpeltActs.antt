@@ -45,7 +45,7 @@ use Rattle.c_names.specs.Uses as n
 use Rattle.c_names.specs.Names.{reserved_faults, use_faults, declare_faults, length_faults}
 use Rattle.c_names.specs.Strings.{pairs_from, is_number_pair, is_other_pair, numbers_in, has_other}
 use Rattle.c_names.specs.Expressions.{expr_faults, int_target_faults, thread_target_faults, call_faults, value_faults}
-use Rattle.c_names.specs.Simples.{op_faults, ops_faults, more_ops_faults, plain_faults, thread_arg_faults, is_thread_function_use, created_faults, mutex_faults, cond_faults as condition_faults, printf_faults, simple_faults}
+use Rattle.c_names.specs.Simples.{op_faults, ops_faults, more_ops_faults, plain_faults, thread_arg_faults, is_thread_function_use, created_faults, mutex_faults, cond_variable_faults, printf_faults, simple_faults}
 use Rattle.c_names.specs.Statements.{guard_faults, cond_faults, decl_faults}
 use Rattle.c_names.specs.SpelledExpressions.{expr_of, target_of, call_of, plain_of, thread_arg_of, simple_of}
 use Rattle.c_names.specs.SpelledStatements.{op_of, ops_of, more_ops_of, guard_of, cond_of, decl_of}
@@ -523,7 +523,7 @@ module _ (names : Names) (known : n.Names) (file : File) (facts : FileFacts name
   cond-use : (x : VarId) → is_cond (kind_here file scope (var.Global x)) ≡ true → VarUse names known scope (var.Global x) condition
   cond-use x h = var-use names known file facts scope locals scope own (var.Global x) condition (cond-kind (kind_here file scope (var.Global x)) h)
 
-  condition-clean : (x : VarId) (spots : List Spot) → is_cond (kind_here file scope (var.Global x)) ≡ true → limits (condition_faults known scope (ident_at (name_at names.globals x.number) spots)) ≡ true
+  condition-clean : (x : VarId) (spots : List Spot) → is_cond (kind_here file scope (var.Global x)) ≡ true → limits (cond_variable_faults known scope (ident_at (name_at names.globals x.number) spots)) ≡ true
   condition-clean x spots h =
       let u = cond-use x h in
       let name = name_at names.globals x.number in
@@ -643,7 +643,7 @@ module _ (names : Names) (known : n.Names) (file : File) (facts : FileFacts name
             ap (λ z. act.Wait (record { number = n.global_number z }) (record { number = n.global_number (n.use_of known scope (name_at names.globals x.number)) }) ∷ []) uc.stands
             ∙ ap (λ z. act.Wait c (record { number = n.global_number z }) ∷ []) ux.stands;
         clean = λ spots.
-            limits-append (condition_faults known scope (ident_at (name_at names.globals c.number) (later (later (later spots))))) _ (condition-clean c (later (later (later spots))) vs.0)
+            limits-append (cond_variable_faults known scope (ident_at (name_at names.globals c.number) (later (later (later spots))))) _ (condition-clean c (later (later (later spots))) vs.0)
             (mutex-clean x (later (later (later (later (later (later spots)))))) vs.1);
       }
   spelt-act (act.Signal c) v next =

@@ -14,7 +14,7 @@ use Rattle.c_prog.specs.Valid.Acts.{is_step}
 use Rattle.c_grammar.specs.declared.sign.Sign.TheVariants as s
 use Rattle.c_grammar.specs.declared.word.Word.TheVariants as w
 use Rattle.c_grammar.specs.Token.{IsWord, IsSign}
-use Rattle.c_grammar.specs.Reader.{first}
+use Rattle.c_grammar.specs.Marks.{first}
 use Rattle.c_print.specs.Text.Names.{Names}
 use Rattle.c_print.specs.Text.Pieces as pieces
 use Rattle.c_print.specs.Text.Acts.{act_text}

@@ -14,7 +14,7 @@ use Rattle.c_grammar.specs.Op as o
 use Rattle.c_grammar.specs.Simple as m
 use Rattle.c_grammar.specs.Cond as c
 use Rattle.c_grammar.specs.Stmt as t
-use Rattle.c_grammar.specs.Reader.{tokens}
+use Rattle.c_grammar.specs.Marks.{tokens}
 use Rattle.c_print.specs.Text.Names.{Names}
 use Rattle.print_law.proofs.Plain.{Stmt, Simple, Jumps, If, Loop, Block, Stmts, NoStmts, And}
 use Rattle.print_law.proofs.Items.{Item, Gap, Is, here, later, spotted, after, joint, tokens-append, spotted-append}

@@ -12,7 +12,7 @@ use Rattle.c_prog.specs.declared.stmt.Stmt.TheOpen.{Stmt-F}
 use Rattle.c_prog.specs.declared.tree.Tree.{Tree}
 use Rattle.c_prog.specs.Marks.{is_new, is_new_start, keep_old, old_of, old_ops}
 use Rattle.c_prog.specs.Strip.{strip_all, strip_cond, strip_step, strip_level, strip_function, strip_functions, strip_tree}
-use Rattle.c_prog.proofs.StripFolds.{strip-ignored}
+use Rattle.c_marks.proofs.StripFolds.{strip-ignored}
 
 -- the old ones of old ones are all of them
 keep-twice : {A : Type 0} (new : A → Bool) (b : Bool) (x : A) (xs : List A) → new x ≡ b → old_of new (keep_old b x xs) ≡ keep_old b x (old_of new xs)

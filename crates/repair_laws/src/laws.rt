@@ -1,11 +1,10 @@
-ghost use Rattle.std.specs.Prelude.{◌≡◌, ◌+◌, ◌<◌, ℕ, ℤ, List, Some, slice_get};
+ghost use Rattle.std.specs.Prelude.{◌≡◌, ◌+◌, ℕ, ℤ, List, Some, slice_get};
 ghost use Rattle.cfix_base.specs.declared.access.AccessId.{AccessId};
 ghost use Rattle.cfix_base.specs.declared.entry.Entry.{Entry};
 ghost use Rattle.cfix_base.specs.declared.mark.Marks.{Marks};
 ghost use Rattle.c_prog.specs.Marks.{tree_marks};
 ghost use Rattle.c_prog.specs.Valid.{IsValid};
 ghost use Rattle.c_prog.specs.declared.tree.Tree.{Tree};
-ghost use Rattle.step_tables.specs.TreeCode.{tree_code};
 ghost use Rattle.erase_laws.specs.Repairs.{AddsNothing};
 ghost use Rattle.placed_trees.specs.Placement.{ClassPlan, OrderPlan, Plan};
 ghost use Rattle.placed_trees.specs.TreeOps.{placed_tree};
@@ -24,12 +23,12 @@ pub fn placed_operations_add_nothing()
 /// region that the class guards.
 #[tactic(auto, using(crate::proofs::Placed::no_atomicity_violation))]
 pub fn no_atomicity_violation()
-    ensures { (tree : Tree) (m : Marks) (plan : Plan) → m ≡ tree_marks tree → IsPlan tree plan → (n : ℕ) (class : ClassPlan) → slice_get plan.classes n ≡ Some class → m.lock + n < (tree_code (placed_tree tree m plan)).locks → (g : Region) (input : List ℤ) (es : List Entry) → NoAtomicityViolation tree (placed_tree tree m plan) class (m.lock + n) g input es }
+    ensures { (tree : Tree) (m : Marks) (plan : Plan) → m ≡ tree_marks tree → IsPlan tree plan → (n : ℕ) (class : ClassPlan) → slice_get plan.classes n ≡ Some class → (g : Region) (input : List ℤ) (es : List Entry) → NoAtomicityViolation tree (placed_tree tree m plan) class (m.lock + n) g input es }
 {}
 
 /// No run of the placed program of a valid one without timeouts of an order has a violation of the
 /// order.
 #[tactic(auto, using(crate::proofs::Placed::no_order_violation))]
 pub fn no_order_violation()
-    ensures { (tree : Tree) (m : Marks) (plan : Plan) → m ≡ tree_marks tree → IsPlan tree plan → IsValid tree → (n : ℕ) (o : OrderPlan) → slice_get plan.orders n ≡ Some o → m.order + n < (tree_code (placed_tree tree m plan)).orders → (a b : AccessId) → a.node.number ≡ o.a → b.node.number ≡ o.b → (input : List ℤ) (es : List Entry) → NoOrderViolation tree (placed_tree tree m plan) o (m.order + n) a b input es }
+    ensures { (tree : Tree) (m : Marks) (plan : Plan) → m ≡ tree_marks tree → IsPlan tree plan → IsValid tree → (n : ℕ) (o : OrderPlan) → slice_get plan.orders n ≡ Some o → (a b : AccessId) → a.node.number ≡ o.a → b.node.number ≡ o.b → (input : List ℤ) (es : List Entry) → NoOrderViolation tree (placed_tree tree m plan) o (m.order + n) a b input es }
 {}

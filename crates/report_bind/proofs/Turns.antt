@@ -8,8 +8,8 @@ use Rattle.c_prog.specs.declared.access_item.AccessItem.{AccessItem}
 use Rattle.c_prog.specs.declared.tree.Tree.{Tree}
 use Rattle.c_prog.specs.Lines.{SourceTree, IsLined, InOrder, same_access, access_before, access_line, same_node, node_before, call_line, tree_accesses}
 use Rattle.c_prog.specs.Rising.{keys, Rises, line_in}
-use Rattle.c_prog.proofs.KeyOrders.{access-order, node-order}
-use Rattle.c_prog.proofs.Searches.{Ordered, in-middle}
+use Rattle.c_source.proofs.KeyOrders.{access-order, node-order}
+use Rattle.c_source.proofs.Searches.{Ordered, in-middle}
 use Rattle.report_bind.specs.Sites.{is_line, is_of, is_meant}
 use Rattle.report_bind.proofs.Kept.{keeps, drops, behind}
 use Rattle.report_json.specs.declared.report.Site.{Site}

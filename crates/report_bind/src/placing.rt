@@ -6,7 +6,8 @@ ghost use Rattle.report_bind.specs.Found.{AreTraced};
 
 use crate::found::Found;
 use crate::sites::same_kind;
-use c_prog::{AccessItem, Source};
+use c_prog::AccessItem;
+use c_source::Source;
 use call_graph::Calls;
 use cfix_base::{Access, List, NoMemory, NodeId};
 use plan_types::Atom;

@@ -2,7 +2,8 @@ ghost use Rattle.std.specs.Prelude.{◌≡◌, ◌&&◌, Some};
 ghost use Rattle.c_prog.specs.Lines.{tree_accesses};
 ghost use Rattle.report_bind.specs.Sites.{variable_name, same_kind, is_line, is_of, site_of};
 
-use c_prog::{AccessItem, Program, Source};
+use c_prog::{AccessItem, Program};
+use c_source::Source;
 use cfix_base::{Access, VarId};
 use report_json::Site;
 

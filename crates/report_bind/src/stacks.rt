@@ -5,7 +5,8 @@ ghost use Rattle.call_graph.specs.Sites.{calls_of};
 ghost use Rattle.report_bind.specs.Stacks.{named_from, function_named, is_function, is_call, call_in, outermost, calls_in, stack_of};
 
 use crate::found::Stack;
-use c_prog::{Function, Source};
+use c_prog::Function;
+use c_source::Source;
 use call_graph::Calls;
 use cfix_base::{AccessId, FnId, List, NoMemory, NodeId};
 use report_json::CallSite;

@@ -13,7 +13,7 @@ use Rattle.std.proofs.lemmas.List.{length-append}
 use Rattle.cfix_base.specs.declared.entry.Entry.{Entry}
 use Rattle.sched_text.specs.Schedules.{mark, entry_line, IsEntry, IsMalformedLine}
 use Rattle.sched_text.proofs.Lines.{IsInLine}
-use Rattle.sched_text.proofs.Threads.{IsNoThread}
+use Rattle.sched_text.proofs.Numbers.{IsNoNumber}
 
 below_64 : (n : ℕ) → n < 2 ^ 32 → n < 2 ^ 64
 below_64 n h = omega arith
@@ -31,7 +31,7 @@ ends_unmarked front n h e =
 
 malformed_by_mark : (line digits : List ℕ) (timeout : Bool) (entry : Entry) (wanted : Bool) → entry.timeout ≡ wanted
     → line ≡ digits ++ mark timeout → (timeout ≡ false → (front : List ℕ) → line ≡ front ++ 33 ∷ [] → ⊥)
-    → IsNoThread digits → IsEntry entry → line ≡ decimal entry.thread ++ mark wanted → ⊥
+    → IsNoNumber digits → IsEntry entry → line ≡ decimal entry.thread ++ mark wanted → ⊥
 malformed_by_mark line digits true entry true t e unmarked none range is =
     none entry.thread range (append_cancel_right digits (decimal entry.thread) (33 ∷ []) (sym e ∙ is))
 malformed_by_mark line digits true entry false t e unmarked none range is =
@@ -42,7 +42,7 @@ malformed_by_mark line digits false entry false t e unmarked none range is =
 
 -- a line is no entry's where what stands before its mark is no thread's number
 pub malformed_line : (line digits : List ℕ) (timeout : Bool) → line ≡ digits ++ mark timeout
-    → (timeout ≡ false → (front : List ℕ) → line ≡ front ++ 33 ∷ [] → ⊥) → IsNoThread digits → IsMalformedLine line
+    → (timeout ≡ false → (front : List ℕ) → line ≡ front ++ 33 ∷ [] → ⊥) → IsNoNumber digits → IsMalformedLine line
 malformed_line line digits timeout e unmarked none entry range is =
     malformed_by_mark line digits timeout entry entry.timeout refl e unmarked none range is
 

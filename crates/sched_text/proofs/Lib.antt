@@ -1,5 +1,5 @@
 pub mod Lines
-pub mod Threads
+pub mod Numbers
 pub mod EntryLines
 pub mod Schedules
 pub mod Values

@@ -1,7 +1,7 @@
 ghost use Rattle.std.specs.Prelude.{◌≡◌, ◌++◌, ◌∷◌, [], false, List, ℕ, MatchOption};
 ghost use Rattle.sched_text.specs.Schedules.{mark, entry_line, IsEntry, IsMalformedLine};
 
-use crate::thread_text::thread_of;
+use crate::number_text::number_of;
 use cfix_base::Entry;
 
 /// A line without its mark, and whether it has one.
@@ -20,7 +20,7 @@ pub fn entry_of(line: &[u8]) -> Option<Entry>
     ensures { MatchOption result (IsMalformedLine line.now) (λ entry. IsEntry entry × (line.now ≡ entry_line entry)) }
 {
     let (digits, timeout) = without_mark(line);
-    match thread_of(digits) {
+    match number_of(digits) {
         Some(thread) => Some(Entry { thread, timeout }),
         None => None,
     }

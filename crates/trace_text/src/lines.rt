@@ -4,7 +4,8 @@ ghost use Rattle.trace_text.specs.Events.{accessed, event_line, line_text};
 
 use crate::events::add_event;
 use crate::pieces::{add, add_number};
-use c_prog::{Program, Tree, accesses};
+use c_access::accesses;
+use c_prog::{Program, Tree};
 use cfix_base::{AccessId, NoMemory, VarId};
 use std::alloc::Global;
 use step_state::Event;

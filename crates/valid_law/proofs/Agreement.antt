@@ -1,6 +1,6 @@
 -- The names of a file and what its program declares say the same of each name.
 use Rattle.std.proofs.Common.{◌≡◌, true, map}
-use Rattle.c_grammar.specs.Reader.{each}
+use Rattle.c_grammar.specs.Marks.{each}
 use Rattle.c_grammar.specs.File.{File, file_marks}
 use Rattle.c_prog.specs.Valid.Kinds.{signature_of, file_of}
 use Rattle.c_names.specs.Uses.{OfVariable, OfFunction, OfNumber}

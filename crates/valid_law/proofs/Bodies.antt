@@ -6,7 +6,7 @@ use Rattle.std.specs.List.{list_all, list_any}
 use Rattle.std.specs.Str.{bytes_eq}
 use Rattle.cfix_base.specs.Words.{is_name_text}
 use Rattle.cfix_base.specs.declared.Spot.{Spot}
-use Rattle.c_grammar.specs.Reader.{each, maybe}
+use Rattle.c_grammar.specs.Marks.{each, maybe}
 use Rattle.c_grammar.specs.Token.{Ident}
 use Rattle.c_grammar.specs.Op.{Ops, ops_marks}
 use Rattle.c_grammar.specs.Stmt.{Items, items_marks}

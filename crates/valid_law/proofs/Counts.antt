@@ -2,7 +2,7 @@
 use Rattle.std.proofs.Common.{ℕ, zero, suc, ◌-◌, ◌^◌, ◌≤◌, ◌<◌, List, [], ◌∷◌, map, length, slice_get, zip, ap, arith}
 use Rattle.std.proofs.lemmas.List.{length-map}
 use Rattle.cfix_base.specs.declared.Spot.{Spot}
-use Rattle.c_grammar.specs.Reader.{each}
+use Rattle.c_grammar.specs.Marks.{each}
 use Rattle.c_grammar.specs.File.{File}
 use Rattle.c_prog.specs.declared.tree.Tree.{Tree}
 use Rattle.c_prog.specs.Accesses.{touches_of}
@@ -14,7 +14,7 @@ use Rattle.c_prog.specs.Valid.Locals.{function_locals, function_cells}
 use Rattle.c_names.specs.Declarations.{names_of}
 use Rattle.c_names.specs.Files.{top_nodes, top_functions, top_cells}
 use Rattle.c_names.specs.Limits.{Cells}
-use Rattle.c_names.specs.Parsed.{IsParsed}
+use Rattle.c_grammar.specs.Parsed.{IsParsed}
 use Rattle.c_names.specs.Sources.{top_lines, top_functions_of, source_of}
 use Rattle.names_laws.proofs.Lined.{lined_spelled}
 use Rattle.names_laws.proofs.Weights.{in_nodes, touch_count, accesses-length}

@@ -5,7 +5,7 @@ use Rattle.std.proofs.lemmas.List.{length-map}
 use Rattle.std.specs.List.{list_all}
 use Rattle.cfix_base.specs.declared.Spot.{Spot}
 use Rattle.c_grammar.specs.declared.sign.Sign.TheVariants as s
-use Rattle.c_grammar.specs.Reader.{maybe}
+use Rattle.c_grammar.specs.Marks.{maybe}
 use Rattle.c_grammar.specs.Token.{Ident, sign}
 use Rattle.c_grammar.specs.Expr as g
 use Rattle.c_grammar.specs.Expr.{pieces, placed, expr_marks, plain}

@@ -9,7 +9,7 @@ use Rattle.cfix_base.specs.Words.{is_name_text, is_reserved_text}
 use Rattle.cfix_base.specs.declared.Spot.{Spot}
 use Rattle.c_grammar.specs.declared.word.Word.TheVariants as w
 use Rattle.c_grammar.specs.declared.sign.Sign.TheVariants as s
-use Rattle.c_grammar.specs.Reader.{each}
+use Rattle.c_grammar.specs.Marks.{each}
 use Rattle.c_grammar.specs.Token.{Ident, ident, word, sign, Mark}
 use Rattle.c_grammar.specs.Decl.{Hold, OneThread, Threads, hold_marks, more_holds_marks, GlobalInt, OneGlobal, SetGlobal, GlobalArray, global_int_marks, GlobalMutex, OneMutex, SetMutex, global_mutex_marks, GlobalCond, OneCond, SetCond, global_cond_marks, Globals, GlobalInts, GlobalHolds, GlobalMutexes, GlobalConds, globals_marks, qualifiers_marks}
 use Rattle.c_grammar.specs.File.{Return, return_word, Params, params_marks, name_marks, static_marks, Head, PlainHead, ThreadHead, head_marks, Top, Include, Define, Variables, Prototype, Function, File, top_marks, file_marks}

@@ -8,7 +8,7 @@ use Rattle.cfix_base.specs.declared.limits.TheConstants.{MAX_ARRAY_LENGTH}
 use Rattle.cfix_base.specs.declared.Spot.{Spot}
 use Rattle.c_grammar.specs.declared.word.Word.TheVariants as w
 use Rattle.c_grammar.specs.declared.sign.Sign.TheVariants as s
-use Rattle.c_grammar.specs.Reader.{each}
+use Rattle.c_grammar.specs.Marks.{each}
 use Rattle.c_grammar.specs.Token.{ident, word, sign, Mark}
 use Rattle.c_grammar.specs.Decl.{Size, Count, Named, size_marks, Hold, OneThread, Threads, hold_marks, more_holds_marks, GlobalInt, OneGlobal, SetGlobal, GlobalArray, minus_marks, global_int_marks, GlobalMutex, OneMutex, SetMutex, GlobalCond, OneCond, SetCond, Globals, GlobalInts, GlobalHolds, GlobalMutexes, GlobalConds, globals_marks, qualifiers_marks}
 use Rattle.c_grammar.specs.File.{Top, Include, Define, Variables, Prototype, Function, File, top_marks, file_marks}

@@ -18,7 +18,7 @@ use Rattle.c_lex.specs.Meaning as m
 use Rattle.c_lex.specs.Faults.{spot_behind, token_of, tokens_behind, tokens_of}
 use Rattle.c_grammar.specs.declared.word.Word.{Word}
 use Rattle.c_grammar.specs.declared.sign.Sign.{Sign}
-use Rattle.c_grammar.specs.Reader.{each, tokens}
+use Rattle.c_grammar.specs.Marks.{each, tokens}
 use Rattle.c_grammar.specs.Token.{Kind, IsWord, IsSign, Mark}
 use Rattle.c_grammar.specs.Spelling.{word_text, word_among, words, sign_text, sign_among, signs}
 use Rattle.c_grammar.specs.Expr as e
@@ -26,8 +26,8 @@ use Rattle.c_grammar.specs.File.{File, file_marks}
 use Rattle.c_prog.specs.Valid.Expressions.{is_number}
 use Rattle.c_prog.specs.Valid.Strings.{is_string_byte, is_string}
 use Rattle.c_names.specs.declared.fault.Fault.{Fault}
-use Rattle.c_names.specs.Texts.{kind_read, token_read, tokens_read}
-use Rattle.c_names.specs.Parsed.{IsParsed}
+use Rattle.c_grammar.specs.Lexical.{kind_read, token_read, tokens_read}
+use Rattle.c_grammar.specs.Parsed.{IsParsed}
 use Rattle.valid_law.specs.Lexical.{are_bytes, is_lexical, all_lexical, are_lexical}
 use Rattle.valid_law.proofs.Faultless.{none-left, none-right, all-append}
 

@@ -4,7 +4,7 @@ use Rattle.std.proofs.lemmas.Bool.{and_from, and_parts, or_left, or_right, not-f
 use Rattle.std.proofs.lemmas.List.{length-map}
 use Rattle.std.specs.List.{list_all, list_any}
 use Rattle.cfix_base.specs.declared.Spot.{Spot}
-use Rattle.c_grammar.specs.Reader.{each}
+use Rattle.c_grammar.specs.Marks.{each}
 use Rattle.c_grammar.specs.File.{Top, Include, Define, Variables, Prototype, Function, File}
 use Rattle.c_prog.specs.declared.function.FnKind.{FnKind}
 use Rattle.c_prog.specs.declared.function.Function as fn

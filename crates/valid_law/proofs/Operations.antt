@@ -5,7 +5,7 @@ use Rattle.std.proofs.lemmas.Bool.Decides.{nat_tests}
 use Rattle.std.proofs.lemmas.Bool.{and_parts, and_from}
 use Rattle.cfix_base.specs.declared.Spot.{Spot}
 use Rattle.cfix_base.specs.declared.op.Op as o
-use Rattle.c_grammar.specs.Reader.{each}
+use Rattle.c_grammar.specs.Marks.{each}
 use Rattle.c_grammar.specs.Op as g
 use Rattle.c_grammar.specs.Cond as c
 use Rattle.c_grammar.specs.Stmt as t

@@ -29,7 +29,7 @@ use Rattle.c_names.specs.Uses.{Names, Use, IsLocal, IsGlobal, IsFunction, IsDefi
 use Rattle.c_names.specs.Names.{reserved_faults, use_faults}
 use Rattle.c_names.specs.Strings.{pairs_from, is_number_pair, is_other_pair, numbers_in, has_other}
 use Rattle.c_names.specs.Expressions.{exprs_faults, int_target_faults, thread_target_faults}
-use Rattle.c_names.specs.Simples.{plain_faults, thread_arg_faults, is_thread_function_use, created_faults, mutex_faults, cond_faults, printf_faults, library_faults, simple_faults}
+use Rattle.c_names.specs.Simples.{plain_faults, thread_arg_faults, is_thread_function_use, created_faults, mutex_faults, cond_variable_faults, printf_faults, library_faults, simple_faults}
 use Rattle.c_names.specs.SpelledExpressions.{expr_of, exprs_of, target_of, how_of, stepped, plain_of, thread_arg_of, library_of, simple_of}
 use Rattle.valid_law.specs.Lexical.{are_lexical}
 use Rattle.valid_law.proofs.Pieces.{pieces-right, lexical-pieces}
@@ -187,7 +187,7 @@ module _ (names : Names) (file : File) (scope inner : Scope) (means : (text : Li
       → is_mutex (kind_here file scope (var.Global (record { number = global_number (use_of names inner x.text) }))) ≡ true
   mutex-valid x f = held-valid is_mutex refl no-mutex x f
 
-  cond-valid : (x : Ident) → cond_faults names inner x ≡ []
+  cond-valid : (x : Ident) → cond_variable_faults names inner x ≡ []
       → is_cond (kind_here file scope (var.Global (record { number = global_number (use_of names inner x.text) }))) ≡ true
   cond-valid x f = held-valid is_cond refl no-cond x f
 
@@ -224,7 +224,7 @@ module _ (names : Names) (file : File) (scope inner : Scope) (means : (text : Li
   library-valid d (m.Scan at before text comma amp t after) s e =
       int-target names file scope inner means d t (lexical-left (target_marks d t) _ (and_parts _ _ s).1) (none-right (fault_if _ text.spot WrongUse) _ e)
   library-valid d (m.Wait at before amp1 x comma amp2 y after) s e =
-      and_from _ _ (cond-valid x (none-left (cond_faults names inner x) _ e)) (mutex-valid y (none-right (cond_faults names inner x) _ e))
+      and_from _ _ (cond-valid x (none-left (cond_variable_faults names inner x) _ e)) (mutex-valid y (none-right (cond_variable_faults names inner x) _ e))
   library-valid d (m.Signal at before amp x after) s e = cond-valid x e
   library-valid d (m.Broadcast at before amp x after) s e = cond-valid x e
 

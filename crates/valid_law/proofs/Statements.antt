@@ -2,7 +2,7 @@
 use Rattle.std.proofs.Common.{◌≡◌, ℕ, suc, pos, ◌+◌, Bool, true, false, not, ◌||◌, List, [], ◌∷◌, ◌++◌, length, Option, Some, None, refl, ap, sym, ◌∙◌, subst, arith, true≢false, if◌then◌else◌}
 use Rattle.std.proofs.lemmas.Bool.{and_parts, and_from, not-false}
 use Rattle.cfix_base.specs.declared.Spot.{Spot}
-use Rattle.c_grammar.specs.Reader.{maybe}
+use Rattle.c_grammar.specs.Marks.{maybe}
 use Rattle.c_grammar.specs.Expr.{pieces}
 use Rattle.c_grammar.specs.Simple as m
 use Rattle.c_grammar.specs.Simple.{value_marks, plain_marks, simple_marks}

@@ -7,10 +7,10 @@ use Rattle.c_lex.specs.declared.fault.LexFault.TheVariants as f
 use Rattle.c_lex.specs.Pieces.{Piece, spelling}
 use Rattle.c_lex.specs.Meaning.{Verdict, Between, Counts, Refuses, verdict}
 use Rattle.c_lex.specs.Faults.{token_of, tokens_behind, tokens_of, fault_of, fault_behind, pieces_spelled, spot_behind, HaveNoFault}
-use Rattle.c_grammar.specs.Reader.{tokens}
+use Rattle.c_grammar.specs.Marks.{tokens}
 use Rattle.c_grammar.specs.File.{File, file_marks}
-use Rattle.c_names.specs.Parsed.{IsParsed}
-use Rattle.c_names.specs.Texts.{token_read}
+use Rattle.c_grammar.specs.Parsed.{IsParsed}
+use Rattle.c_grammar.specs.Lexical.{token_read}
 
 length-tokens : {T : Type 0} (marks : List (T × ℕ)) → length (tokens marks) ≡ length marks
 length-tokens [] = refl

@@ -4,7 +4,7 @@ use Rattle.std.proofs.lemmas.List.{length-append}
 use Rattle.cfix_base.specs.declared.Spot.{Spot}
 use Rattle.c_grammar.specs.declared.word.Word.TheVariants as word_of
 use Rattle.c_grammar.specs.declared.sign.Sign.TheVariants as sign_of
-use Rattle.c_grammar.specs.Reader.{each, maybe}
+use Rattle.c_grammar.specs.Marks.{each, maybe}
 use Rattle.c_grammar.specs.Token.{ident, word, sign, Mark}
 use Rattle.c_grammar.specs.Expr as g
 use Rattle.c_grammar.specs.Expr.{Piece, plain, long_pieces, pieces, placed, expr_marks}

@@ -6,7 +6,7 @@ use Rattle.c_prog.specs.Valid.{IsValid}
 use Rattle.c_prog.specs.Valid.Kinds.{file_of}
 use Rattle.c_names.specs.Declarations.{names_of}
 use Rattle.c_names.specs.Files.{faults_of}
-use Rattle.c_names.specs.Parsed.{IsParsed}
+use Rattle.c_grammar.specs.Parsed.{IsParsed}
 use Rattle.c_names.specs.Sources.{source_of}
 use Rattle.valid_law.specs.Agrees.{Agrees}
 use Rattle.valid_law.specs.Lexical.{are_lexical}

@@ -4,7 +4,7 @@ ghost use Rattle.cfix_base.specs.declared.Spot.{Spot};
 ghost use Rattle.c_grammar.specs.File.{File};
 ghost use Rattle.c_prog.specs.Valid.{IsValid};
 ghost use Rattle.c_names.specs.Files.{faults_of};
-ghost use Rattle.c_names.specs.Parsed.{IsParsed};
+ghost use Rattle.c_grammar.specs.Parsed.{IsParsed};
 ghost use Rattle.c_names.specs.Sources.{source_of};
 
 /// The program that a file spells is valid, where the file is the one of a text that was read and

@@ -1,8 +1,8 @@
 use Rattle.std.proofs.Common.{◌≡◌, ◌<◌, ℕ, true, false, drop, map, sym, ap, ◌∙◌, arith, rules}
 use Rattle.std.proofs.lemmas.Result.{err_from_is_err_and}
 use Rattle.std.proofs.lemmas.List.{map_push}
-use Rattle.c_grammar.specs.Reader.{begins, size, map_out}
-use Rattle.c_grammar.specs.ReadStmt.{begins_item, items_from, stmt_at}
+use Rattle.c_reading.specs.Reader.{begins, size, map_out}
+use Rattle.c_reading.specs.ReadStmt.{begins_item, items_from, stmt_at}
 use Rattle.c_raw.specs.Stmts.{item_view}
 use Rattle.c_stmt.specs.Stmts.{item_at, items_at}
 use Rattle.c_stmt.proofs.Loop as loop

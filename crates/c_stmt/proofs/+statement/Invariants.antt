@@ -1,5 +1,5 @@
 use Rattle.std.proofs.Common.{◌+◌, ◌*◌, drop, map}
-use Rattle.c_grammar.specs.ReadStmt.{begins_item}
+use Rattle.c_reading.specs.ReadStmt.{begins_item}
 use Rattle.c_raw.specs.Stmts.{item_view}
 use Rattle.c_stmt.specs.Stmts.{item_at}
 use Rattle.c_stmt.proofs.Loop.{SoFar}

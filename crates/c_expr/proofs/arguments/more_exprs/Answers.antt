@@ -1,11 +1,11 @@
 use Rattle.std.proofs.Common.{◌≡◌, ℕ, ◌-◌, ◌<◌, true, List, ◌∷◌, ◌++◌, [], drop, refl, sym, ap, ◌∙◌, arith}
 use Rattle.std.proofs.lemmas.Result.{err_from_is_err_and}
 use Rattle.c_grammar.specs.declared.sign.Sign.TheVariants as s
-use Rattle.c_grammar.specs.Reader.{Out, Got, begins, seq, size}
+use Rattle.c_reading.specs.Reader.{Out, Got, begins, seq, size}
 use Rattle.c_grammar.specs.Token.{Token}
 use Rattle.c_grammar.specs.Expr as g
-use Rattle.c_grammar.specs.Read.{is_sign, read_sign}
-use Rattle.c_grammar.specs.ReadExpr.{expr_at}
+use Rattle.c_reading.specs.Read.{is_sign, read_sign}
+use Rattle.c_reading.specs.ReadExpr.{expr_at}
 use Rattle.c_raw.specs.Exprs.{expr_view}
 use Rattle.c_raw.specs.Simples.{next_view, more_view}
 use Rattle.cfix_base.specs.declared.Spot.{Spot}

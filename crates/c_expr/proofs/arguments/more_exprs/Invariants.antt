@@ -1,8 +1,8 @@
 use Rattle.std.proofs.Common.{◌≡◌, ◌-◌, drop}
 use Rattle.c_grammar.specs.declared.sign.Sign.TheVariants as s
-use Rattle.c_grammar.specs.Reader.{seq, size, many_by}
-use Rattle.c_grammar.specs.Read.{is_sign, read_sign, commas}
-use Rattle.c_grammar.specs.ReadExpr.{expr_at}
+use Rattle.c_reading.specs.Reader.{seq, size, many_by}
+use Rattle.c_reading.specs.Read.{is_sign, read_sign, commas}
+use Rattle.c_reading.specs.ReadExpr.{expr_at}
 use Rattle.c_raw.specs.Simples.{more_view}
 use Rattle.c_cursor.proofs.Loops.{with_front}
 use Rattle.c_expr.proofs.arguments.more_exprs.Given as goal

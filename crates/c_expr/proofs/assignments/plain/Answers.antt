@@ -1,8 +1,8 @@
 use Rattle.std.proofs.Common.{◌≡◌, true, false, drop}
 use Rattle.std.proofs.lemmas.Result.{err_from_is_err_and}
-use Rattle.c_grammar.specs.Reader.{begins}
-use Rattle.c_grammar.specs.Read.{is_name}
-use Rattle.c_grammar.specs.ReadSimple.{target_at}
+use Rattle.c_reading.specs.Reader.{begins}
+use Rattle.c_reading.specs.Read.{is_name}
+use Rattle.c_reading.specs.ReadSimple.{target_at}
 use Rattle.c_raw.specs.Simples.{target_view, step_view}
 use Rattle.c_cursor.proofs.Exits.{stops-by}
 use Rattle.c_expr.proofs.ValueSteps.{plain-name, plain-name_stop, plain-none, plain-step, plain-step_stop}

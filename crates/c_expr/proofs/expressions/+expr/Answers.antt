@@ -1,11 +1,11 @@
 use Rattle.std.proofs.Common.{◌≡◌, suc, ◌+◌, ◌-◌, true, false, drop, sym, ap, ◌∙◌, arith}
 use Rattle.std.proofs.lemmas.Result.{err_from_is_err_and}
-use Rattle.c_grammar.specs.Reader.{Got, map_out, begins}
+use Rattle.c_reading.specs.Reader.{Got, map_out, begins}
 use Rattle.c_grammar.specs.Expr as g
 use Rattle.c_grammar.specs.declared.sign.Sign.TheVariants as s
-use Rattle.c_grammar.specs.Read.{is_name, is_number, read_sign}
-use Rattle.c_grammar.specs.ReadExpr.{is_prefix, operators, append, unary_at, expr_at}
-use Rattle.c_grammar.specs.ReadSimple.{is_bracket}
+use Rattle.c_reading.specs.Read.{is_name, is_number, read_sign}
+use Rattle.c_reading.specs.ReadExpr.{is_prefix, operators, append, unary_at, expr_at}
+use Rattle.c_reading.specs.ReadSimple.{is_bracket}
 use Rattle.c_raw.specs.declared.expr.Expr.{Expr}
 use Rattle.c_raw.specs.declared.expr.Expr.TheVariants as raw
 use Rattle.c_raw.specs.Exprs.{prefix_view, binary_view, expr_view}

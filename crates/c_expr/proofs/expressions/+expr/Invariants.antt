@@ -1,5 +1,5 @@
 use Rattle.std.proofs.Common.{◌≡◌, ℕ, ◌+◌, ◌*◌, ◌-◌, drop}
-use Rattle.c_grammar.specs.ReadExpr.{operators}
+use Rattle.c_reading.specs.ReadExpr.{operators}
 use Rattle.c_raw.specs.Exprs.{expr_view}
 use Rattle.c_expr.specs.Parts.{chain_at}
 use Rattle.c_expr.proofs.expressions.+expr.Given as goal

@@ -1,5 +1,5 @@
 use Rattle.std.proofs.Common.{drop, ap, ◌∙◌}
-use Rattle.c_grammar.specs.Reader.{map_out}
+use Rattle.c_reading.specs.Reader.{map_out}
 use Rattle.c_grammar.specs.Simple as gs
 use Rattle.c_expr.proofs.CallSteps.{arg-in}
 use Rattle.c_expr.proofs.headers.cast_arg.Goals as goal

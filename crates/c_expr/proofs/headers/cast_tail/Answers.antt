@@ -1,8 +1,8 @@
 use Rattle.std.proofs.Common.{◌≡◌, ◌-◌, false, drop, ap, ◌∙◌}
 use Rattle.std.proofs.lemmas.Result.{err_from_is_err_and}
 use Rattle.c_grammar.specs.declared.word.Word.TheVariants as w
-use Rattle.c_grammar.specs.Reader.{map_out, begins}
-use Rattle.c_grammar.specs.Read.{is_word}
+use Rattle.c_reading.specs.Reader.{map_out, begins}
+use Rattle.c_reading.specs.Read.{is_word}
 use Rattle.c_cursor.proofs.Exits.{stops-by}
 use Rattle.c_expr.specs.Parts.{inside_at}
 use Rattle.c_expr.proofs.CallSteps.{no_long, cast-inside}

@@ -1,8 +1,8 @@
 use Rattle.std.proofs.Common.{◌≡◌, false, drop, ap, ◌∙◌}
 use Rattle.std.proofs.lemmas.Result.{err_from_is_err_and}
-use Rattle.c_grammar.specs.Reader.{map_out, begins}
-use Rattle.c_grammar.specs.ReadExpr.{unary_at}
-use Rattle.c_grammar.specs.ReadSimple.{is_paren}
+use Rattle.c_reading.specs.Reader.{map_out, begins}
+use Rattle.c_reading.specs.ReadExpr.{unary_at}
+use Rattle.c_reading.specs.ReadSimple.{is_paren}
 use Rattle.c_cursor.proofs.Exits.{stops-by}
 use Rattle.c_expr.proofs.CallSteps.{no_long, cast-other}
 use Rattle.c_expr.proofs.headers.cast_value.Goals as goal

@@ -1,9 +1,9 @@
 use Rattle.std.proofs.Common.{◌≡◌, true, false, drop, sym, ap, ◌∙◌}
 use Rattle.std.proofs.lemmas.Result.{err_from_is_err_and}
 use Rattle.c_grammar.specs.declared.word.Word.TheVariants as w
-use Rattle.c_grammar.specs.Reader.{Got, map_out, begins}
-use Rattle.c_grammar.specs.Read.{is_word}
-use Rattle.c_grammar.specs.ReadSimple.{create_at}
+use Rattle.c_reading.specs.Reader.{Got, map_out, begins}
+use Rattle.c_reading.specs.Read.{is_word}
+use Rattle.c_reading.specs.ReadSimple.{create_at}
 use Rattle.c_raw.specs.Simples.{create_view}
 use Rattle.c_cursor.proofs.Exits.{stops-by}
 use Rattle.c_raw.specs.declared.simple.Create.{Create}

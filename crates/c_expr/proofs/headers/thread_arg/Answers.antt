@@ -1,7 +1,7 @@
 use Rattle.std.proofs.Common.{◌≡◌, true, false, drop}
 use Rattle.c_grammar.specs.declared.word.Word.TheVariants as w
-use Rattle.c_grammar.specs.Reader.{begins}
-use Rattle.c_grammar.specs.Read.{is_word}
+use Rattle.c_reading.specs.Reader.{begins}
+use Rattle.c_reading.specs.Read.{is_word}
 use Rattle.c_expr.proofs.CallSteps.{thread-null, thread-cast}
 use Rattle.c_expr.proofs.headers.thread_arg.Goals as goal
 

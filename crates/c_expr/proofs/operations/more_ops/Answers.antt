@@ -1,10 +1,10 @@
 use Rattle.std.proofs.Common.{◌≡◌, ◌-◌, ◌<◌, true, List, ◌∷◌, ◌++◌, [], drop, refl, sym, ap, ◌∙◌, arith}
 use Rattle.std.proofs.lemmas.Result.{err_from_is_err_and}
 use Rattle.c_grammar.specs.declared.sign.Sign.TheVariants as s
-use Rattle.c_grammar.specs.Reader.{Out, Got, begins, seq, size}
+use Rattle.c_reading.specs.Reader.{Out, Got, begins, seq, size}
 use Rattle.c_grammar.specs.Token.{Token}
-use Rattle.c_grammar.specs.Read.{is_sign, read_sign}
-use Rattle.c_grammar.specs.ReadOp.{read_op}
+use Rattle.c_reading.specs.Read.{is_sign, read_sign}
+use Rattle.c_reading.specs.ReadOp.{read_op}
 use Rattle.c_raw.specs.Ops.{op_view, more_ops_view}
 use Rattle.cfix_base.specs.declared.Spot.{Spot}
 use Rattle.c_cursor.proofs.Exits.{stops-by}

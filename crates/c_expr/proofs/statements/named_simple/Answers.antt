@@ -1,6 +1,6 @@
 use Rattle.std.proofs.Common.{◌≡◌, false, drop, sym, ap, ◌∙◌}
-use Rattle.c_grammar.specs.Reader.{Got, begins}
-use Rattle.c_grammar.specs.ReadSimple.{is_paren}
+use Rattle.c_reading.specs.Reader.{Got, begins}
+use Rattle.c_reading.specs.ReadSimple.{is_paren}
 use Rattle.c_raw.specs.Tokens.{ident_view}
 use Rattle.c_raw.specs.Simples.{index_view}
 use Rattle.c_raw.specs.declared.token.Ident.{Ident}

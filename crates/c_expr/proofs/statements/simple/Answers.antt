@@ -1,9 +1,9 @@
 use Rattle.std.proofs.Common.{◌≡◌, true, false, drop, ap, ◌∙◌}
 use Rattle.std.proofs.lemmas.Result.{err_from_is_err_and}
-use Rattle.c_grammar.specs.Reader.{map_out, begins}
+use Rattle.c_reading.specs.Reader.{map_out, begins}
 use Rattle.c_grammar.specs.Simple as gs
-use Rattle.c_grammar.specs.Read.{is_name}
-use Rattle.c_grammar.specs.ReadSimple.{target_at, library_at}
+use Rattle.c_reading.specs.Read.{is_name}
+use Rattle.c_reading.specs.ReadSimple.{target_at, library_at}
 use Rattle.c_raw.specs.Simples.{target_view, step_view}
 use Rattle.c_cursor.proofs.Exits.{stops-by}
 use Rattle.c_expr.proofs.ValueSteps.{simple-name, simple-step, simple-step_stop, simple-library}

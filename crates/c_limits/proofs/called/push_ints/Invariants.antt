@@ -1,5 +1,5 @@
 use Rattle.std.proofs.Common.{◌≡◌, ◌++◌, map, drop}
-use Rattle.c_grammar.specs.Reader.{each}
+use Rattle.c_grammar.specs.Marks.{each}
 use Rattle.c_names.specs.LinesStatements.{local_int_calls}
 use Rattle.c_raw.specs.Decls.{more_local_ints_view}
 use Rattle.c_limits.proofs.called.push_ints.Given as goal

@@ -1,5 +1,5 @@
 use Rattle.std.proofs.Common.{◌≡◌, eqb, true, false, drop, rules}
-use Rattle.c_grammar.specs.Read.{ident_of}
+use Rattle.c_reading.specs.Read.{ident_of}
 use Rattle.c_cursor.specs.Seen.{spot_at}
 use Rattle.c_parse.proofs.Directives.{on, off}
 use Rattle.c_parse.proofs.directive.ident_on.Goals as goal

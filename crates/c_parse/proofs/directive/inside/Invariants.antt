@@ -1,6 +1,6 @@
 use Rattle.std.proofs.Common.{drop, map}
-use Rattle.c_grammar.specs.ReadFile.{is_inside, inside_of}
-use Rattle.c_grammar.specs.Reader.{one_of}
+use Rattle.c_reading.specs.ReadFile.{is_inside, inside_of}
+use Rattle.c_reading.specs.Reader.{one_of}
 use Rattle.c_raw.specs.Tokens.{token_view}
 use Rattle.c_stmt.proofs.Loop.{SoFar}
 use Rattle.c_parse.proofs.directive.inside.Given as goal

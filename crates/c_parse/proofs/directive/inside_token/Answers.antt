@@ -1,6 +1,6 @@
 use Rattle.std.proofs.Common.{◌≡◌, true, false, drop, rules}
-use Rattle.c_grammar.specs.Reader.{begins}
-use Rattle.c_grammar.specs.ReadFile.{is_inside}
+use Rattle.c_reading.specs.Reader.{begins}
+use Rattle.c_reading.specs.ReadFile.{is_inside}
 use Rattle.c_parse.proofs.Directives.{inside_more, inside_end}
 use Rattle.c_parse.proofs.directive.inside_token.Goals as goal
 

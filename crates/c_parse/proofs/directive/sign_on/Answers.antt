@@ -1,5 +1,5 @@
 use Rattle.std.proofs.Common.{◌≡◌, eqb, true, false, drop, rules}
-use Rattle.c_grammar.specs.Read.{at_sign}
+use Rattle.c_reading.specs.Read.{at_sign}
 use Rattle.c_cursor.specs.Seen.{spot_at}
 use Rattle.c_parse.proofs.Directives.{on, off}
 use Rattle.c_parse.proofs.directive.sign_on.Goals as goal

@@ -1,6 +1,6 @@
 use Rattle.std.proofs.Common.{drop, map}
 use Rattle.c_grammar.specs.declared.sign.Sign.TheVariants as s
-use Rattle.c_grammar.specs.Read.{is_sign}
+use Rattle.c_reading.specs.Read.{is_sign}
 use Rattle.c_parse.specs.Globals.{next_mutex_view, next_mutex}
 use Rattle.c_stmt.proofs.Loop.{SoFar}
 use Rattle.c_parse.proofs.globals.more_mutexes_of.Given as goal

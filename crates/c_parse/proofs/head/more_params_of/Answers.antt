@@ -1,9 +1,9 @@
 use Rattle.std.proofs.Common.{◌≡◌, ◌<◌, true, false, drop, map, arith, rules}
 use Rattle.std.proofs.lemmas.Result.{err_from_is_err_and}
 use Rattle.std.proofs.lemmas.List.{map_push}
-use Rattle.c_grammar.specs.Reader.{begins, size}
+use Rattle.c_reading.specs.Reader.{begins, size}
 use Rattle.c_grammar.specs.declared.sign.Sign.TheVariants as s
-use Rattle.c_grammar.specs.Read.{is_sign}
+use Rattle.c_reading.specs.Read.{is_sign}
 use Rattle.c_parse.specs.Heads.{next_param_view, next_param}
 use Rattle.c_stmt.proofs.Loop as loop
 use Rattle.c_stmt.proofs.Stop.{stops_by}

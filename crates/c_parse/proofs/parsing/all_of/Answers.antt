@@ -1,7 +1,7 @@
 use Rattle.std.proofs.Common.{◌≡◌, ◌≢◌, drop, arith}
 use Rattle.std.proofs.lemmas.Result.{err_from_is_err_and}
-use Rattle.c_grammar.specs.Reader.{size, many}
-use Rattle.c_grammar.specs.ReadFile.{begins_top, checked, top_at}
+use Rattle.c_reading.specs.Reader.{size, many}
+use Rattle.c_reading.specs.ReadFile.{begins_top, checked, top_at}
 use Rattle.c_parse.specs.Parsed.{tops_view}
 use Rattle.c_parse.proofs.Readings.{file_got, file_more, file_stop}
 use Rattle.c_stmt.proofs.Stop.{stops_by}

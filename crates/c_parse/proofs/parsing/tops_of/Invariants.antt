@@ -1,5 +1,5 @@
 use Rattle.std.proofs.Common.{drop, map}
-use Rattle.c_grammar.specs.ReadFile.{begins_top, checked, top_at}
+use Rattle.c_reading.specs.ReadFile.{begins_top, checked, top_at}
 use Rattle.c_raw.specs.Files.{top_view}
 use Rattle.c_stmt.proofs.Loop.{SoFar}
 use Rattle.c_parse.proofs.parsing.tops_of.Given as goal

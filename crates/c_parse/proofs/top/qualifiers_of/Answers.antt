@@ -1,7 +1,7 @@
 use Rattle.std.proofs.Common.{◌<◌, drop, map, arith}
 use Rattle.std.proofs.lemmas.List.{map_push}
-use Rattle.c_grammar.specs.Reader.{one_of, size}
-use Rattle.c_grammar.specs.ReadFile.{is_qualifier, qualifier_of}
+use Rattle.c_reading.specs.Reader.{one_of, size}
+use Rattle.c_reading.specs.ReadFile.{is_qualifier, qualifier_of}
 use Rattle.c_parse.specs.Tops.{qualifier_at_view}
 use Rattle.c_stmt.proofs.Loop as loop
 use Rattle.c_parse.proofs.top.qualifiers_of.Goals as goal

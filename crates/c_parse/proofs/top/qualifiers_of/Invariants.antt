@@ -1,6 +1,6 @@
 use Rattle.std.proofs.Common.{drop, map}
-use Rattle.c_grammar.specs.Reader.{one_of}
-use Rattle.c_grammar.specs.ReadFile.{is_qualifier, qualifier_of}
+use Rattle.c_reading.specs.Reader.{one_of}
+use Rattle.c_reading.specs.ReadFile.{is_qualifier, qualifier_of}
 use Rattle.c_parse.specs.Tops.{qualifier_at_view}
 use Rattle.c_stmt.proofs.Loop.{SoFar}
 use Rattle.c_parse.proofs.top.qualifiers_of.Given as goal

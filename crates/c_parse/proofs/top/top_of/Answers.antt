@@ -1,7 +1,7 @@
 use Rattle.std.proofs.Common.{◌≡◌, true, false, drop, rules}
 use Rattle.c_grammar.specs.declared.sign.Sign.TheVariants as s
-use Rattle.c_grammar.specs.Reader.{begins}
-use Rattle.c_grammar.specs.Read.{is_sign}
+use Rattle.c_reading.specs.Reader.{begins}
+use Rattle.c_reading.specs.Read.{is_sign}
 use Rattle.c_parse.proofs.Tops.{top_directive, top_declared}
 use Rattle.c_parse.proofs.top.top_of.Goals as goal
 

@@ -1,6 +1,6 @@
 use Rattle.std.proofs.Common.{◌≡◌, true, false, drop, inl, inr, rules}
-use Rattle.c_grammar.specs.Reader.{begins}
-use Rattle.c_grammar.specs.ReadSimple.{is_paren}
+use Rattle.c_reading.specs.Reader.{begins}
+use Rattle.c_reading.specs.ReadSimple.{is_paren}
 use Rattle.c_stmt.proofs.Conds.{cond_plain, cond_paren}
 use Rattle.c_stmt.proofs.cond.cond_of.Goals as goal
 

@@ -1,8 +1,8 @@
 use Rattle.std.proofs.Common.{◌≡◌, ◌<◌, true, false, drop, map, arith, rules}
 use Rattle.std.proofs.lemmas.List.{map_push}
-use Rattle.c_grammar.specs.Reader.{begins, size}
+use Rattle.c_reading.specs.Reader.{begins, size}
 use Rattle.c_grammar.specs.declared.sign.Sign.TheVariants as s
-use Rattle.c_grammar.specs.Read.{is_sign}
+use Rattle.c_reading.specs.Read.{is_sign}
 use Rattle.c_stmt.specs.Decls.{next_loop_int_view, next_loop_int}
 use Rattle.c_stmt.proofs.Loop as loop
 use Rattle.c_stmt.proofs.decl.more_loop_ints_of.Goals as goal

@@ -1,8 +1,8 @@
 use Rattle.std.proofs.Common.{◌≡◌, ◌<◌, true, false, drop, map, arith, rules}
 use Rattle.std.proofs.lemmas.Result.{err_from_is_err_and}
 use Rattle.std.proofs.lemmas.List.{map_push}
-use Rattle.c_grammar.specs.Reader.{begins, size}
-use Rattle.c_grammar.specs.ReadOp.{is_verb}
+use Rattle.c_reading.specs.Reader.{begins, size}
+use Rattle.c_reading.specs.ReadOp.{is_verb}
 use Rattle.c_stmt.specs.Conds.{guard_op_view, guard_op}
 use Rattle.c_stmt.proofs.Loop as loop
 use Rattle.c_stmt.proofs.Stop.{stops_by}

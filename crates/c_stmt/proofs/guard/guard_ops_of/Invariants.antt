@@ -1,5 +1,5 @@
 use Rattle.std.proofs.Common.{drop, map}
-use Rattle.c_grammar.specs.ReadOp.{is_verb}
+use Rattle.c_reading.specs.ReadOp.{is_verb}
 use Rattle.c_stmt.specs.Conds.{guard_op_view, guard_op}
 use Rattle.c_stmt.proofs.Loop.{SoFar}
 use Rattle.c_stmt.proofs.guard.guard_ops_of.Given as goal

@@ -1,5 +1,5 @@
 -- The accesses and the calls of a program rise.
-use Rattle.c_prog.proofs.LinesRise.{lined-rise}
+use Rattle.c_source.proofs.LinesRise.{lined-rise}
 use Rattle.c_types.proofs.line_table.lines_with.Goals as goal
 
 pub of-requires : goal.of-requires

@@ -4,7 +4,7 @@ use Rattle.std.specs.Prelude.{IfOk, IfErr, OnOk}
 use Rattle.c_raw.specs.Files.{top_view, file_view}
 use Rattle.c_names.specs.Faults.{noted_all}
 use Rattle.c_names.specs.Files.{faults_of}
-use Rattle.c_names.specs.Parsed.{IsParsed}
+use Rattle.c_grammar.specs.Parsed.{IsParsed}
 use Rattle.c_names.specs.Sources.{source_of}
 use Rattle.c_types.specs.Outcome.{Tells}
 use Rattle.c_types.proofs.Sound.{valid-where, refused-where}

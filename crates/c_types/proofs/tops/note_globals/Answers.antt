@@ -6,11 +6,11 @@ use Rattle.c_raw.specs.declared.decl.Hold.{Hold}
 use Rattle.c_raw.specs.declared.decl.GlobalMutex.{GlobalMutex}
 use Rattle.c_raw.specs.declared.decl.GlobalCond.{GlobalCond}
 use Rattle.c_raw.specs.Decls.{global_int_view, hold_view, global_mutex_view, global_cond_view, globals_view}
-use Rattle.c_grammar.specs.Reader.{each}
+use Rattle.c_grammar.specs.Marks.{each}
 use Rattle.c_names.specs.Faults.{noted_all}
 use Rattle.c_names.specs.Files.{global_int_faults, global_hold_faults, global_mutex_faults, global_cond_faults, globals_faults}
 use Rattle.c_scope.specs.Tables.{names_from}
-use Rattle.c_types.proofs.Declarators.{int-faults, hold-faults, mutex-faults, cond-faults}
+use Rattle.c_declare.proofs.Declarators.{int-faults, hold-faults, mutex-faults, cond-faults}
 use Rattle.c_types.proofs.tops.note_globals.Goals as goal
 
 pub returns-in-Ints : goal.returns-in-Ints

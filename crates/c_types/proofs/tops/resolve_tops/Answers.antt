@@ -5,8 +5,8 @@ use Rattle.c_raw.specs.Files.{top_view}
 use Rattle.c_names.specs.Files.{top_faults}
 use Rattle.c_names.specs.Sources.{top_globals, top_functions_of, top_lines}
 use Rattle.c_scope.specs.Tables.{names_from}
-use Rattle.c_types.specs.Counting.{top_fits}
-use Rattle.c_types.proofs.Turns.{turn-count, turn-all, turn-each, turn-faults}
+use Rattle.c_declare.specs.Counting.{top_fits}
+use Rattle.c_declare.proofs.Turns.{turn-count, turn-all, turn-each, turn-faults}
 use Rattle.c_types.proofs.tops.resolve_tops.Goals as goal
 
 pub loop-top-preserved : goal.loop-top-preserved

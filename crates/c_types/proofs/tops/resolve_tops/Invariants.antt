@@ -1,12 +1,12 @@
 use Rattle.std.proofs.Common.{◌≡◌, ◌<◌, ◌^◌, ◌++◌, true, map, drop}
 use Rattle.std.specs.List.{list_all}
 use Rattle.c_raw.specs.Files.{top_view}
-use Rattle.c_grammar.specs.Reader.{each}
+use Rattle.c_grammar.specs.Marks.{each}
 use Rattle.c_names.specs.Faults.{noted_all}
 use Rattle.c_names.specs.Files.{top_faults}
 use Rattle.c_names.specs.Sources.{top_globals, top_functions_of, top_lines}
 use Rattle.c_scope.specs.Tables.{names_from}
-use Rattle.c_types.specs.Counting.{file_count, top_fits}
+use Rattle.c_declare.specs.Counting.{file_count, top_fits}
 use Rattle.c_types.proofs.tops.resolve_tops.Given as goal
 
 abbrev pub invariant-loop-top : goal.invariant-loop-top

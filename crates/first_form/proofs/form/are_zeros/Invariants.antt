@@ -1,6 +1,6 @@
 use Rattle.std.proofs.Common.{◌≡◌, drop}
 use Rattle.std.specs.List.{list_all}
-use Rattle.c_prog.specs.Straight.{begins_with_zero}
+use Rattle.straight_laws.specs.Straight.{begins_with_zero}
 use Rattle.first_form.proofs.form.are_zeros.Given as goal
 
 abbrev pub invariant-loop-global : goal.invariant-loop-global

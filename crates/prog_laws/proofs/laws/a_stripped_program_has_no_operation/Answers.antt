@@ -1,4 +1,4 @@
-use Rattle.c_prog.proofs.PatchedStrip.{stays-unpatched}
+use Rattle.c_patched.proofs.PatchedStrip.{stays-unpatched}
 use Rattle.c_prog.specs.Marks.{all_new}
 use Rattle.c_prog.specs.Strip.{strip_tree}
 use Rattle.prog_laws.proofs.Bare.{bare-of}

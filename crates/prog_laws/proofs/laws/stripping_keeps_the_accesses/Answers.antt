@@ -1,6 +1,6 @@
 use Rattle.std.proofs.Common.{ap}
 use Rattle.c_prog.specs.Accesses.{numbered}
-use Rattle.c_prog.proofs.ValidStrip.{strip-touches}
+use Rattle.c_strip.proofs.ValidStrip.{strip-touches}
 use Rattle.prog_laws.proofs.laws.stripping_keeps_the_accesses.Goals as goal
 
 pub returns : goal.returns

@@ -1,5 +1,0 @@
-use Rattle.c_grammar.proofs.ReadFile.{file_reads_exactly}
-use Rattle.c_grammar.proofs.laws.a_file_is_read_exactly.Goals as goal
-
-pub returns : goal.returns
-returns c = file_reads_exactly

@@ -1,5 +1,0 @@
-use Rattle.c_grammar.proofs.Expr.{expr_one_tree}
-use Rattle.c_grammar.proofs.laws.an_expression_has_one_tree.Goals as goal
-
-pub returns : goal.returns
-returns c = expr_one_tree

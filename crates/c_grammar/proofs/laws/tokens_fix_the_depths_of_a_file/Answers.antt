@@ -1,5 +1,0 @@
-use Rattle.c_grammar.proofs.ReadFile.{file_fixes_depths}
-use Rattle.c_grammar.proofs.laws.tokens_fix_the_depths_of_a_file.Goals as goal
-
-pub returns : goal.returns
-returns c = file_fixes_depths

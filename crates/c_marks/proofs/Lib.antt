@@ -1,0 +1,4 @@
+pub mod StripFolds
+pub mod Fuses
+pub mod AllOps
+pub mod Greatest

@@ -1,0 +1,2 @@
+pub mod FindNodes
+pub mod Numberings

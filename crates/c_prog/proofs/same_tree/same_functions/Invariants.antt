@@ -1,5 +1,0 @@
-use Rattle.std.proofs.Common.{◌≡◌, take, length}
-use Rattle.c_prog.proofs.same_tree.same_functions.Given as goal
-
-abbrev pub invariant-loop-i : goal.invariant-loop-i
-invariant-loop-i l = (take l.i l.a ≡ take l.i l.b) × (length l.a ≡ length l.b)

@@ -1,0 +1,10 @@
+pub mod Exact
+pub mod Read
+pub mod ReadCond
+pub mod ReadDecl
+pub mod ReadExpr
+pub mod ReadFile
+pub mod ReadOp
+pub mod Reader
+pub mod ReadSimple
+pub mod ReadStmt

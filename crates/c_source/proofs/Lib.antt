@@ -1,0 +1,3 @@
+pub mod LinesRise
+pub mod Searches
+pub mod KeyOrders

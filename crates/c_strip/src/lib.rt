@@ -1,0 +1,6 @@
+//! A program without its new operations.
+#![tactic(auto)]
+
+mod stripping;
+
+pub use stripping::strip;

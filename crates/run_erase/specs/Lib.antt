@@ -1,0 +1,2 @@
+pub mod Erases
+pub mod Steps

@@ -1,0 +1,4 @@
+pub mod ValidExamples
+pub mod StraightEquations
+pub mod StraightBody
+pub mod ValidStraight

@@ -1,0 +1,2 @@
+pub mod Unvisited
+pub mod OpsBelow
