@@ -5,4 +5,3 @@ pub mod VisitLaws
 pub mod AtomLaws
 pub mod RegionPaths
 pub mod ForcedOrder
-pub mod TreeLinks
